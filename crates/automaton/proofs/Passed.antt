@@ -1,0 +1,118 @@
+-- What is known where lines 3 to 9 passed, up to a file that reads.
+-- Assumes nothing.
+use Prim.Native.Nat.{ℕ, _+_, _*_, _≤_, _<_}
+use mathlib.Core.Path.{_≡_, refl}
+use mathlib.Core.Bool.{Bool, true, false, _&&_}
+use mathlib.Core.List.{List}
+use native.Mathlib.Omega.{arith}
+use borrow.Author.Tests.{ltb-true}
+use lib.Dec.{ltb}
+use lib.ListN.{length, getD}
+use Rattle.blocks.specs.Blocks.{content}
+use Rattle.refusal.specs.Checks.{_andThen_}
+use Rattle.refusal.specs.Lines.{fileCheck, kindCheck, countCheck, sizeCheck, fillerCheck}
+use Rattle.refusal.specs.declared.Check.{Check}
+use Rattle.refusal.specs.declared.Check.the-variants.{Passed, Refused}
+use Rattle.refusal.specs.declared.Fault.{Fault}
+use Rattle.refusal.proofs.Passed.{clash, both-passed, if-passed, and-is-true, each-passed, FileSize, file-passed, count-passed, size-passed}
+use Rattle.automaton.specs.Rules.{rule, sorted, knownIf, ruleAt, sortPlace, sortMove, misplaced, ruleRefusal, ruleCheck}
+use Rattle.automaton.specs.File.{format, payload, countsCheck, layoutCheck, LaidOut, setsCheck, rulesCheck, bodyCheck, headerOf, readOf, parsed}
+use Rattle.automaton.specs.declared.Header.{Header}
+use Rattle.automaton.specs.declared.Rule.{Rule}
+use Rattle.automaton.specs.declared.file.Parsed.{Parsed}
+use Rattle.automaton.specs.declared.rules.PlaceByte.{PlaceByte}
+use Rattle.automaton.specs.declared.rules.MoveByte.{MoveByte}
+use Rattle.automaton.specs.declared.rules.RuleBytes.{RuleBytes}
+
+pub layout-passed : (h : Header) (p : List ℕ) → layoutCheck h p ≡ Passed → LaidOut h p
+unfolding layoutCheck countsCheck
+layout-passed h p e =
+    let states = countCheck format (h .states) 1 24 1 in
+    let symbols = countCheck format (h .symbols) 1 32 2 in
+    let rules = countCheck format (h .rules) 0 512 4 in
+    let later = both-passed (kindCheck format p) ((states andThen symbols andThen rules) andThen sizeCheck format (payload h) p) e .1 in
+    let both = both-passed (states andThen symbols andThen rules) (sizeCheck format (payload h) p) later in
+    let first = both-passed states (symbols andThen rules) (both .0) in
+    let second = both-passed symbols rules (first .1) in
+    record {
+      states = count-passed format (h .states) 1 24 1 (first .0) .1;
+      symbols = count-passed format (h .symbols) 1 32 2 (second .0) .1;
+      few = count-passed format (h .rules) 0 512 4 (second .1) .1;
+      rules = size-passed format (payload h) p (both .1);
+    }
+
+-- ---- a rule that is known has numbers below the counts
+
+pub record InCounts (h : Header) (r : Rule) : Type 0 where
+  pub symbol : r .symbol .0 < h .symbols
+  pub state : r .state .0 < h .states
+  pub next : r .next .0 < h .states
+
+sorted-in : (h : Header) (symbol state next : ℕ) (place : PlaceByte) (step : MoveByte) (r : Rule)
+    → (ltb symbol (h .symbols) && ltb state (h .states) && ltb next (h .states)) ≡ true
+    → sorted symbol state place step next ≡ RuleBytes.Known r → InCounts h r
+sorted-in h symbol state next (PlaceByte.Known scope) (MoveByte.Known step) r t e =
+    let same : rule symbol state scope step next ≡ r = cc in
+    let both = and-is-true (ltb symbol (h .symbols) && ltb state (h .states)) (ltb next (h .states)) t in
+    let first = and-is-true (ltb symbol (h .symbols)) (ltb state (h .states)) (both .0) in
+    rw (← same) (record { symbol = ltb-true _ _ (first .0); state = ltb-true _ _ (first .1); next = ltb-true _ _ (both .1) })
+sorted-in h symbol state next (PlaceByte.Known scope) MoveByte.Unknown r t e = clash (cc)
+sorted-in h symbol state next PlaceByte.Unknown step r t e = clash (cc)
+
+known-if : (t : Bool) (a : RuleBytes) (r : Rule) → knownIf t a ≡ RuleBytes.Known r → (t ≡ true) × (a ≡ RuleBytes.Known r)
+known-if true a r e = (refl, e)
+known-if false a r e = clash (cc)
+
+pub rule-in : (h : Header) (p : List ℕ) (i : ℕ) (r : Rule) → ruleAt h p i ≡ RuleBytes.Known r → InCounts h r
+unfolding ruleAt
+rule-in h p i r e =
+    let at = 20 + 5 * i in
+    let known = known-if _ _ r e in
+    sorted-in h (getD p at 0) (getD p (at + 1) 0) (getD p (at + 4) 0) (sortPlace (getD p (at + 2) 0)) (sortMove (getD p (at + 3) 0)) r (known .0) (known .1)
+
+-- ---- a file that reads
+
+pub record KnownRule (h : Header) (p : List ℕ) (i : ℕ) : Type 0 where
+  pub rule : Rule
+  pub known : ruleAt h p i ≡ RuleBytes.Known rule
+  pub placed : misplaced (h .branches) rule ≡ false
+
+rule-passed : (h : Header) (p : List ℕ) (i : ℕ) → ruleCheck h p i ≡ Passed → KnownRule h p i
+unfolding ruleCheck
+rule-passed h p i e = go (ruleAt h p i) refl e
+  where
+    go : (bytes : RuleBytes) → ruleAt h p i ≡ bytes → ruleRefusal (h .branches) i bytes ≡ Passed → KnownRule h p i
+    go RuleBytes.Unknown known passed = clash (cc)
+    go (RuleBytes.Known rule) known passed = record { rule = rule; known = known; placed = if-passed _ Fault.Move 0 i passed }
+
+read-of : (c : Check) (h h′ : Header) → readOf c h ≡ Parsed.Read h′ → (c ≡ Passed) × (h ≡ h′)
+read-of Passed h h′ e = (refl, cc)
+read-of (Refused r) h h′ e = clash (cc)
+
+-- the file is of its size, the header is the contents', the counts are within their limits, line 7 passed, and every rule is known and well placed
+pub record FileRead (s : List ℕ) (h : Header) : Type 0 where
+  pub size : FileSize format (length s)
+  pub header : headerOf (content s) ≡ h
+  pub laid-out : LaidOut h (content s)
+  pub sets : setsCheck h ≡ Passed
+  pub rules : (i : ℕ) → i < h .rules → KnownRule h (content s) i
+
+pub file-read : (s : List ℕ) (h : Header) → parsed s ≡ Parsed.Read h → FileRead s h
+unfolding parsed bodyCheck rulesCheck
+file-read s h e =
+    let p = content s in
+    let g = headerOf p in
+    let body = fillerCheck format (payload g) p andThen setsCheck g andThen rulesCheck g p in
+    let read = read-of (fileCheck format s andThen layoutCheck g p andThen body) g h e in
+    let first = both-passed (fileCheck format s) (layoutCheck g p andThen body) (read .0) in
+    let both = both-passed (layoutCheck g p) body (first .1) in
+    let rest = both-passed (fillerCheck format (payload g) p) (setsCheck g andThen rulesCheck g p) (both .1) .1 in
+    let last = both-passed (setsCheck g) (rulesCheck g p) rest in
+    rw (← read .1)
+    (record {
+      size = file-passed format s (first .0);
+      header = refl;
+      laid-out = layout-passed g p (both .0);
+      sets = last .0;
+      rules = λ i l. rule-passed g p i (each-passed (ruleCheck g p) 0 (g .rules) (last .1) i (omega arith) (omega arith));
+    })

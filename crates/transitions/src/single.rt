@@ -1,0 +1,65 @@
+// Whether an automaton is single: no two of its rule records meet.
+use automaton::Header;
+ghost use mathlib.Core.Path.{_≡_};
+ghost use Prim.Native.Nat.{_+_, _*_, _<_, _≤_};
+ghost use lib.ListN.{length};
+ghost use Rattle.transitions.specs.Single.{shared, meet, meetsOne, single};
+
+// Whether two place bytes have a place in common.
+fn share(a: u8, b: u8) -> bool
+    ensures { λ r. ⌜ r ≡ shared a b ⌝ }
+{
+    if a == b {
+        return true;
+    }
+    if a == 3 {
+        return true;
+    }
+    b == 3
+}
+
+// Whether the records i and j have the same symbol and state and a place in common.
+fn records_meet(content: &[u8], i: usize, j: usize) -> bool
+    requires { ⌜ (25 + 5 * i ≤ length (now content)) × (25 + 5 * j ≤ length (now content)) ⌝ }
+    ensures { λ r. ⌜ r ≡ meet (now (content .entry)) i j ⌝ }
+{
+    let a = 20 + 5 * i;
+    let b = 20 + 5 * j;
+    if content[a] != content[b] {
+        return false;
+    }
+    if content[a + 1] != content[b + 1] {
+        return false;
+    }
+    share(content[a + 2], content[b + 2])
+}
+
+// Whether record i meets an earlier one.
+fn meets_earlier(content: &[u8], i: usize) -> bool
+    requires { ⌜ 25 + 5 * i ≤ length (now content) ⌝ }
+    ensures { λ r. ⌜ r ≡ meetsOne (now (content .entry)) i i ⌝ }
+{
+    let mut j = 0;
+    while j < i {
+        if records_meet(content, i, j) {
+            return true;
+        }
+        j += 1;
+    }
+    false
+}
+
+pub fn is_single(content: &[u8], header: Header) -> bool
+    requires { ⌜ 20 + 5 * header .rules ≤ length (now content) ⌝ }
+    ensures { λ r. ⌜ r ≡ single header (now (content .entry)) ⌝ }
+{
+    let rules = header.rules as usize;
+    let mut i = 0;
+    while i < rules {
+        if meets_earlier(content, i) {
+            return false;
+        }
+        i += 1;
+    }
+    true
+}
