@@ -49,10 +49,22 @@ fn header(content: &[u8]) -> Header
 fn counts_check(header: Header) -> Check
     ensures { λ r. ⌜ r ≡ countsCheck header ⌝ }
 {
-    if let Check::Refused(refusal) = refusal::lines::count_check(FORMAT, header.states as usize, 1, 24, 1) {
+    if let Check::Refused(refusal) = refusal::lines::count_check(
+        FORMAT,
+        header.states as usize,
+        1,
+        24,
+        1,
+    ) {
         return Check::Refused(refusal);
     }
-    if let Check::Refused(refusal) = refusal::lines::count_check(FORMAT, header.symbols as usize, 1, 32, 2) {
+    if let Check::Refused(refusal) = refusal::lines::count_check(
+        FORMAT,
+        header.symbols as usize,
+        1,
+        32,
+        2,
+    ) {
         return Check::Refused(refusal);
     }
     refusal::lines::count_check(FORMAT, header.rules as usize, 0, 512, 4)

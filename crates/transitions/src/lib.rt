@@ -49,7 +49,8 @@ pub fn cell(symbol: Symbol, place: Place, step: Move, state: State) -> usize
     requires { ⌜ (symbol .0 < 32) × (state .0 < 24) ⌝ }
     ensures { λ r. ⌜ (r ≡ cellOf (symbol .0) place step (state .0)) × (r < 9216) ⌝ }
 {
-    (((symbol.0 as usize) * 3 + place_number(place)) * 4 + move_number(step)) * 24 + (state.0 as usize)
+    (((symbol.0 as usize) * 3 + place_number(place)) * 4 + move_number(step)) * 24
+        + (state.0 as usize)
 }
 
 // Adds a rule's transition at one place.

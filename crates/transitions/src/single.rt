@@ -1,9 +1,18 @@
 // Whether an automaton is single: no two of its rule records meet.
 use automaton::Header;
+use automaton::file::Parsed;
+use refusal::Refusal;
 ghost use mathlib.Core.Path.{_≡_};
 ghost use Prim.Native.Nat.{_+_, _*_, _<_, _≤_};
 ghost use lib.ListN.{length};
-ghost use Rattle.transitions.specs.Single.{shared, meet, meetsOne, single};
+ghost use Rattle.transitions.specs.Single.{shared, meet, meetsOne, single, singleOf};
+
+// What is told of a file: whether its automaton is single, or its refusal.
+pub enum Singleness {
+    Single,
+    Multiple,
+    Refused(Refusal),
+}
 
 // Whether two place bytes have a place in common.
 fn share(a: u8, b: u8) -> bool
@@ -49,7 +58,8 @@ fn meets_earlier(content: &[u8], i: usize) -> bool
     false
 }
 
-pub fn is_single(content: &[u8], header: Header) -> bool
+// Whether no two of the records meet.
+fn is_single(content: &[u8], header: Header) -> bool
     requires { ⌜ 20 + 5 * header .rules ≤ length (now content) ⌝ }
     ensures { λ r. ⌜ r ≡ single header (now (content .entry)) ⌝ }
 {
@@ -62,4 +72,22 @@ pub fn is_single(content: &[u8], header: Header) -> bool
         i += 1;
     }
     true
+}
+
+// Whether the automaton of a file is single, or the file's refusal.
+pub fn single_file(file: &[u8]) -> Singleness
+    ensures { λ r. ⌜ r ≡ singleOf (now (file .entry)) ⌝ }
+{
+    match automaton::file::parse(file) {
+        Parsed::Refused(refusal) => Singleness::Refused(refusal),
+        Parsed::Read(header) => {
+            let mut buffer = [0u8; 3048];
+            let len = blocks::join(file, &mut buffer);
+            if is_single(&buffer[..len], header) {
+                Singleness::Single
+            } else {
+                Singleness::Multiple
+            }
+        }
+    }
 }

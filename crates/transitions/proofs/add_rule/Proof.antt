@@ -18,5 +18,5 @@ add-rule-spec =
     (λ c. search needs)
     (λ c. at-one (c .before .before .before .before .before .before .before .before .args .rule) (c .before .before .before .before .before .scope .given .1) (c .before .before .add-step .ensures))
     (λ c. search needs)
-    (λ c. 
-      at-every (c .before .before .before .before .before .before .before .before .before .before .before .before .before .before .before .args .rule) (c .before .before .before .before .before .before .before .before .before .before .before .before .enum-told .given .1) (c .before .before .before .before .before .before .before .before .before .before .add-step2 .ensures) (c .before .before .before .before .before .before .add-step3 .ensures) (c .before .before .add-step4 .ensures)))
+    (λ c.
+    at-every (c .before .before .before .before .before .before .before .before .before .before .before .before .before .before .before .args .rule) (c .before .before .before .before .before .before .before .before .before .before .before .before .enum-told .given .1) (c .before .before .before .before .before .before .before .before .before .before .add-step2 .ensures) (c .before .before .before .before .before .before .add-step3 .ensures) (c .before .before .add-step4 .ensures)))

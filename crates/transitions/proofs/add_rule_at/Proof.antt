@@ -16,8 +16,8 @@ add-rule-at-spec =
     (λ c. search needs)
     (λ c. search needs)
     (λ c. rw (sym (c .before .before .rule-at .ensures) ∙ c .enum-told .given .1) (unknown-adds _))
-    (λ c κs. 
-      let h = rule-in _ _ _ _ (sym (c .before .before .before .before .rule-at .ensures) ∙ c .before .before .rule .given .1) in
-      (search needs, record { symbol = omega (arith, h .symbol); state = omega (arith, h .state); next = omega (arith, h .next) }))
+    (λ c κs.
+    let h = rule-in _ _ _ _ (sym (c .before .before .before .before .rule-at .ensures) ∙ c .before .before .rule .given .1) in
+    (search needs, record { symbol = omega (arith, h .symbol); state = omega (arith, h .state); next = omega (arith, h .next) }))
     (λ c. search needs)
     (λ c. rw (sym (c .before .before .before .before .before .before .before .rule-at .ensures) ∙ c .before .before .before .before .before .rule .given .1) (c .before .before .add-rule .ensures)))

@@ -19,6 +19,6 @@ add-step-spec =
     (λ c. search needs)
     (λ c. search needs)
     (λ c. search needs)
-    (λ c. 
-      let a = c .before .before .before .before .before .args in
-      rw (c .before .cell .ensures .0, one-shl (a .rule .next .0) (omega arith)) (stepped (a .table .now) (a .rule) (a .place) (c .before .before .before .before .before .pre .0) (c .before .before .before .before .before .pre .1))))
+    (λ c.
+    let a = c .before .before .before .before .before .args in
+    rw (c .before .cell .ensures .0, one-shl (a .rule .next .0) (omega arith)) (stepped (a .table .now) (a .rule) (a .place) (c .before .before .before .before .before .pre .0) (c .before .before .before .before .before .pre .1))))

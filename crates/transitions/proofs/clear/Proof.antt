@@ -27,11 +27,11 @@ clear-spec =
     (λ c. search needs)
     (λ c. search needs)
     (λ c. search needs)
-    (λ c. 
-      let l = c .before .loop in
-      (search needs, simp length-set (l .inv .1), rw (l .inv .2) (fill-more (l .i) 0 _ (search needs))))
+    (λ c.
+    let l = c .before .loop in
+    (search needs, simp length-set (l .inv .1), rw (l .inv .2) (fill-more (l .i) 0 _ (search needs))))
     (λ c. search needs)
-    (λ c. 
-      let l = c .before .loop in
-      let end : l .i ≡ length (c .before .before .args .table .now) = search needs in
-      rw (l .inv .2, end, drop-length, append-nil)))
+    (λ c.
+    let l = c .before .loop in
+    let end : l .i ≡ length (c .before .before .args .table .now) = search needs in
+    rw (l .inv .2, end, drop-length, append-nil)))

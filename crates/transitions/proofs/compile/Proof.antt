@@ -29,6 +29,6 @@ compile-spec =
     (λ c. search needs)
     (λ c. (search needs, one-held _ _ _ _ _ (c .before .before .before .before .before .loop .inv .1) (c .before .before .add-rule-at .ensures)))
     (λ c. search needs)
-    (λ c. 
-      let end : c .before .loop .i ≡ c .before .before .before .before .before .before .before .before .before .args .header .rules = search needs in
-      rw end at (c .before .loop .inv .1)))
+    (λ c.
+    let end : c .before .loop .i ≡ c .before .before .before .before .before .before .before .before .before .args .header .rules = search needs in
+    rw end at (c .before .loop .inv .1)))

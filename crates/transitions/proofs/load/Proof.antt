@@ -6,8 +6,8 @@ use mathlib.Core.Path.{_≡_, refl, sym, _∙_}
 use mathlib.Core.List.{List}
 use native.Mathlib.Omega.{arith}
 use lib.ListN.{length, take, length-append}
-use lib.Seq.{take-at}
 use Rattle.blocks.specs.Blocks.{content}
+use Rattle.blocks.proofs.Laws.{joined-is}
 use Rattle.automaton.specs.File.{parsed}
 use Rattle.automaton.specs.declared.file.Parsed.{Parsed}
 use Rattle.automaton.proofs.Passed.{file-read}
@@ -22,8 +22,7 @@ read-is c = sym (c .before .before .before .parse .ensures) ∙ c .before .heade
 -- the part of the buffer that is lent on holds the joined contents
 content-is : (c : tie.After-join) →
     take (c .join .result) (c .join .last .1 .0) ≡ content (c .before .before .before .before .before .before .before .args .file .now)
-content-is c = rw (c .join .ensures .1) (take-at _ _ _ (sym (c .join .ensures .0)))
-
+content-is c = joined-is _ _ _ _ (c .join .ensures .0) (c .join .ensures .1)
 
 pub load-spec : {M : Type 1} → statement M
 load-spec =
@@ -36,7 +35,7 @@ load-spec =
     (λ c κs. let read = file-read _ _ (read-is (c .before)) in omega (arith, read .size .most))
     (λ c. rw (c .before .join .ensures .1) (simp length-append (omega (arith, c .before .join .ensures .0))))
     (λ c. rw (content-is (c .before .before)) (c .before .before .join .ensures .0))
-    (λ c κs. 
-      (rw (content-is (c .before .before .before)) (file-read _ _ (read-is (c .before .before .before .before .before)) .laid-out), search needs))
+    (λ c κs.
+    (rw (content-is (c .before .before .before)) (file-read _ _ (read-is (c .before .before .before .before .before)) .laid-out), search needs))
     (λ c. (sym (c .before .refusal .given .1) ∙ c .before .before .before .parse .ensures, refl))
     (λ c. (sym (c .before .before .before .before .before .before .before .header .given .1) ∙ c .before .before .before .before .before .before .before .before .before .parse .ensures, rw (content-is (c .before .before .before .before)) at (c .compile .ensures))))

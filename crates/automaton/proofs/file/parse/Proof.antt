@@ -6,9 +6,8 @@ use mathlib.Core.Path.{_≡_, sym, ap, ap₂, _∙_}
 use mathlib.Core.List.{List}
 use native.Mathlib.Omega.{arith}
 use lib.ListN.{length, take, length-append}
-use lib.Seq.{take-at}
 use Rattle.blocks.specs.Blocks.{content}
-use Rattle.blocks.proofs.Laws.{content-length}
+use Rattle.blocks.proofs.Laws.{content-length, joined-is}
 use Rattle.refusal.specs.Lines.{fileCheck}
 use Rattle.refusal.specs.declared.Check.the-variants.{Passed}
 use Rattle.refusal.proofs.Passed.{file-passed}
@@ -31,7 +30,7 @@ module _ (c : tie.After-join) where
   contentAt = content (fileAt (c .before .before))
 
   content-is : take (c .join .result) (c .join .last .1 .0) ≡ contentAt
-  content-is = rw (c .join .ensures .1) (take-at _ _ _ (sym (c .join .ensures .0)))
+  content-is = joined-is _ _ _ _ (c .join .ensures .0) (c .join .ensures .1)
 
   content-size : 508 ≤ length contentAt
   content-size =
@@ -56,7 +55,6 @@ body-is c =
     c .body-check .ensures
     ∙ ap₂ bodyCheck (header-is (c .before .before .before .before)) (content-is (c .before .before .before .before .before .before .before))
 
-
 pub parse-spec : {M : Type 1} → statement M
 unfolding parsed
 parse-spec =
@@ -73,16 +71,16 @@ parse-spec =
     (λ c κs. let size = content-size (c .before .before) in rw (content-is (c .before .before)) (omega arith))
     (λ c κs. let size = content-size (c .before .before .before) in rw (content-is (c .before .before .before)) (omega arith))
     (λ c. search needs)
-    (λ c. 
-      rw (file-is (c .before .before .before .before .before .before .before .before .before), sym (layout-is (c .before .before .before)) ∙ c .before .refusal2 .given .1))
+    (λ c.
+    rw (file-is (c .before .before .before .before .before .before .before .before .before), sym (layout-is (c .before .before .before)) ∙ c .before .refusal2 .given .1))
     (λ c. search needs)
     (λ c κs. layout-passed _ _ (sym (c .before .before .layout-check .ensures) ∙ c .enum-told2 .given .1))
     (λ c. search needs)
-    (λ c. 
-      let told = c .before .before .before .before in
-      rw (file-is (told .before .before .before .before .before .before .before .before), layout-passes told, sym (body-is (c .before .before .before)) ∙ c .before .refusal3 .given .1))
+    (λ c.
+    let told = c .before .before .before .before in
+    rw (file-is (told .before .before .before .before .before .before .before .before), layout-passes told, sym (body-is (c .before .before .before)) ∙ c .before .refusal3 .given .1))
     (λ c. search needs)
-    (λ c. 
-      let told = c .before .before .before in
-      rw (file-is (told .before .before .before .before .before .before .before .before), layout-passes told, sym (body-is (c .before .before)) ∙ c .enum-told3 .given .1)
-      (ap Parsed.Read (header-is (told .before .before .before)))))
+    (λ c.
+    let told = c .before .before .before in
+    rw (file-is (told .before .before .before .before .before .before .before .before), layout-passes told, sym (body-is (c .before .before)) ∙ c .enum-told3 .given .1)
+    (ap Parsed.Read (header-is (told .before .before .before)))))

@@ -27,34 +27,34 @@ rule-at-spec =
     (λ c κs. search needs)
     (λ c. search needs)
     (λ c. search needs)
-    (λ c. 
-      let t = c .before .before .before .before in
-      simp (
-        lt-ltb _ _ (t .before .before .before .before .if1 .left),
-        lt-ltb _ _ (t .before .before .if2 .left),
-        lt-ltb _ _ (t .if3 .left),
-        sym (c .before .before .sort-place .ensures) ∙ c .enum-told .given .1,
-      ))
+    (λ c.
+    let t = c .before .before .before .before in
+    simp (
+      lt-ltb _ _ (t .before .before .before .before .if1 .left),
+      lt-ltb _ _ (t .before .before .if2 .left),
+      lt-ltb _ _ (t .if3 .left),
+      sym (c .before .before .sort-place .ensures) ∙ c .enum-told .given .1,
+    ))
     (λ c. search needs)
     (λ c. search needs)
     (λ c κs. search needs)
     (λ c. search needs)
     (λ c. search needs)
-    (λ c. 
-      let t = c .before .before .before .before .before .before .before .before .before in
-      simp (
-        lt-ltb _ _ (t .before .before .before .before .if1 .left),
-        lt-ltb _ _ (t .before .before .if2 .left),
-        lt-ltb _ _ (t .if3 .left),
-        sym (c .before .before .before .before .before .before .before .sort-place .ensures) ∙ c .before .before .before .before .before .scope .given .1,
-        sym (c .before .before .sort-move .ensures) ∙ c .enum-told2 .given .1,
-      ))
-    (λ c. 
-      let t = c .before .before .before .before .before .before .before .before .before .before in
-      simp (
-        lt-ltb _ _ (t .before .before .before .before .if1 .left),
-        lt-ltb _ _ (t .before .before .if2 .left),
-        lt-ltb _ _ (t .if3 .left),
-        sym (c .before .before .before .before .before .before .before .before .sort-place .ensures) ∙ c .before .before .before .before .before .before .scope .given .1,
-        sym (c .before .before .before .sort-move .ensures) ∙ c .before .step .given .1,
-      )))
+    (λ c.
+    let t = c .before .before .before .before .before .before .before .before .before in
+    simp (
+      lt-ltb _ _ (t .before .before .before .before .if1 .left),
+      lt-ltb _ _ (t .before .before .if2 .left),
+      lt-ltb _ _ (t .if3 .left),
+      sym (c .before .before .before .before .before .before .before .sort-place .ensures) ∙ c .before .before .before .before .before .scope .given .1,
+      sym (c .before .before .sort-move .ensures) ∙ c .enum-told2 .given .1,
+    ))
+    (λ c.
+    let t = c .before .before .before .before .before .before .before .before .before .before in
+    simp (
+      lt-ltb _ _ (t .before .before .before .before .if1 .left),
+      lt-ltb _ _ (t .before .before .if2 .left),
+      lt-ltb _ _ (t .if3 .left),
+      sym (c .before .before .before .before .before .before .before .before .sort-place .ensures) ∙ c .before .before .before .before .before .before .scope .given .1,
+      sym (c .before .before .before .sort-move .ensures) ∙ c .before .step .given .1,
+    )))

@@ -19,9 +19,9 @@ rule-check-spec =
     (λ c. rw (sym (c .before .before .before .rule-at .ensures) ∙ c .before .enum-told .given .1) (c .refused .ensures))
     (λ c κs. search needs)
     (λ c κs. search needs)
-    (λ c. 
-      let known = sym (c .before .before .before .before .before .before .rule-at .ensures) ∙ c .before .before .before .before .rule .given .1 in
-      rw known (refuse-if _ _ _ _ (sym (c .before .before .is-misplaced .ensures) ∙ c .before .if1 .taken) (c .refused2 .ensures)))
-    (λ c. 
-      let known = sym (c .before .before .before .before .before .rule-at .ensures) ∙ c .before .before .before .rule .given .1 in
-      rw known (pass-if _ _ _ _ (sym (c .before .is-misplaced .ensures) ∙ c .if1 .left))))
+    (λ c.
+    let known = sym (c .before .before .before .before .before .before .rule-at .ensures) ∙ c .before .before .before .before .rule .given .1 in
+    rw known (refuse-if _ _ _ _ (sym (c .before .before .is-misplaced .ensures) ∙ c .before .if1 .taken) (c .refused2 .ensures)))
+    (λ c.
+    let known = sym (c .before .before .before .before .before .rule-at .ensures) ∙ c .before .before .before .rule .given .1 in
+    rw known (pass-if _ _ _ _ (sym (c .before .is-misplaced .ensures) ∙ c .if1 .left))))

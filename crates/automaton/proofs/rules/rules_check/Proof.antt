@@ -26,13 +26,13 @@ rules-check-spec =
     (λ c. (search needs, rw sub-zero))
     (λ c κs. search needs)
     (λ c. search needs)
-    (λ c. 
-      let l = c .before .before .before .before .before .loop in
-      sym (l .inv .1 ∙ each-stop _ (l .i) _ (search needs) (sym (c .before .before .before .rule-check .ensures) ∙ c .before .refusal .given .1)))
+    (λ c.
+    let l = c .before .before .before .before .before .loop in
+    sym (l .inv .1 ∙ each-stop _ (l .i) _ (search needs) (sym (c .before .before .before .rule-check .ensures) ∙ c .before .refusal .given .1)))
     (λ c. search needs)
     (λ c. search needs)
     (λ c. search needs)
-    (λ c. 
-      let l = c .before .before .before .before .loop in
-      (search needs, l .inv .1 ∙ each-next _ (l .i) _ (search needs) (sym (c .before .before .rule-check .ensures) ∙ c .enum-told .given .1)))
+    (λ c.
+    let l = c .before .before .before .before .loop in
+    (search needs, l .inv .1 ∙ each-next _ (l .i) _ (search needs) (sym (c .before .before .rule-check .ensures) ∙ c .enum-told .given .1)))
     (λ c. sym (c .before .loop .inv .1 ∙ each-done _ _ _ (search needs))))

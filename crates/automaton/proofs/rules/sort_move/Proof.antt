@@ -16,7 +16,7 @@ sort-move-spec =
     (λ c. rw (c .match .keys2))
     (λ c. rw (c .match .keys3))
     (λ c. rw (c .match .keys4))
-    (λ c. 
-      let b = c .before .args .b in
-      let e : b ≡ suc (suc (suc (suc (b - 4)))) = omega arith in
-      rw e))
+    (λ c.
+    let b = c .before .args .b in
+    let e : b ≡ suc (suc (suc (suc (b - 4)))) = omega arith in
+    rw e))

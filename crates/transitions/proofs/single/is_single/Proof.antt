@@ -29,6 +29,6 @@ is-single-spec =
     (λ c. search needs)
     (λ c. search needs)
     (λ c. (search needs, single-next _ _ (c .before .before .before .loop .inv .1) (sym (c .before .meets-earlier .ensures) ∙ c .if1 .left)))
-    (λ c. 
-      let end : c .before .loop .i ≡ c .before .before .before .before .args .header .rules = search needs in
-      sym (rw end at (c .before .loop .inv .1))))
+    (λ c.
+    let end : c .before .loop .i ≡ c .before .before .before .before .args .header .rules = search needs in
+    sym (rw end at (c .before .loop .inv .1))))

@@ -28,6 +28,6 @@ meets-earlier-spec =
     (λ c. search needs)
     (λ c. search needs)
     (λ c. (search needs, meets-next _ _ _ (c .before .before .before .loop .inv .1) (sym (c .before .records-meet .ensures) ∙ c .if1 .left)))
-    (λ c. 
-      let end : c .before .loop .j ≡ c .before .before .before .args .i = search needs in
-      sym (rw end at (c .before .loop .inv .1))))
+    (λ c.
+    let end : c .before .loop .j ≡ c .before .before .before .args .i = search needs in
+    sym (rw end at (c .before .loop .inv .1))))
