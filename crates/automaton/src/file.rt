@@ -4,6 +4,11 @@ use refusal::Check;
 use refusal::Fault;
 use refusal::Refusal;
 use refusal::lines::Format;
+use refusal::lines::count_check;
+use refusal::lines::file_check;
+use refusal::lines::filler_check;
+use refusal::lines::kind_check;
+use refusal::lines::size_check;
 use refusal::refused;
 ghost use mathlib.Core.Path.{_≡_};
 ghost use Prim.Native.Nat.{_*_, _+_, _≤_};
@@ -49,25 +54,13 @@ fn header(content: &[u8]) -> Header
 fn counts_check(header: Header) -> Check
     ensures { λ r. ⌜ r ≡ countsCheck header ⌝ }
 {
-    if let Check::Refused(refusal) = refusal::lines::count_check(
-        FORMAT,
-        header.states as usize,
-        1,
-        24,
-        1,
-    ) {
+    if let Check::Refused(refusal) = count_check(FORMAT, header.states as usize, 1, 24, 1) {
         return Check::Refused(refusal);
     }
-    if let Check::Refused(refusal) = refusal::lines::count_check(
-        FORMAT,
-        header.symbols as usize,
-        1,
-        32,
-        2,
-    ) {
+    if let Check::Refused(refusal) = count_check(FORMAT, header.symbols as usize, 1, 32, 2) {
         return Check::Refused(refusal);
     }
-    refusal::lines::count_check(FORMAT, header.rules as usize, 0, 512, 4)
+    count_check(FORMAT, header.rules as usize, 0, 512, 4)
 }
 
 // Lines 3 to 5.
@@ -75,13 +68,13 @@ fn layout_check(content: &[u8], header: Header) -> Check
     requires { ⌜ 20 ≤ length (now content) ⌝ }
     ensures { λ r. ⌜ r ≡ layoutCheck header (now (content .entry)) ⌝ }
 {
-    if let Check::Refused(refusal) = refusal::lines::kind_check(FORMAT, content) {
+    if let Check::Refused(refusal) = kind_check(FORMAT, content) {
         return Check::Refused(refusal);
     }
     if let Check::Refused(refusal) = counts_check(header) {
         return Check::Refused(refusal);
     }
-    refusal::lines::size_check(FORMAT, content, 20 + 5 * (header.rules as usize))
+    size_check(FORMAT, content, 20 + 5 * (header.rules as usize))
 }
 
 // Whether a set has a bit at or above its count.
@@ -115,7 +108,7 @@ fn body_check(content: &[u8], header: Header) -> Check
     ensures { λ r. ⌜ r ≡ bodyCheck header (now (content .entry)) ⌝ }
 {
     let end = 20 + 5 * (header.rules as usize);
-    if let Check::Refused(refusal) = refusal::lines::filler_check(FORMAT, content, end) {
+    if let Check::Refused(refusal) = filler_check(FORMAT, content, end) {
         return Check::Refused(refusal);
     }
     if let Check::Refused(refusal) = sets_check(header) {
@@ -128,7 +121,7 @@ fn body_check(content: &[u8], header: Header) -> Check
 pub fn parse(file: &[u8]) -> Parsed
     ensures { λ r. ⌜ r ≡ parsed (now (file .entry)) ⌝ }
 {
-    if let Check::Refused(refusal) = refusal::lines::file_check(FORMAT, file) {
+    if let Check::Refused(refusal) = file_check(FORMAT, file) {
         return Parsed::Refused(refusal);
     }
     let mut buffer = [0u8; 3048];

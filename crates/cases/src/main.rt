@@ -7,7 +7,6 @@ use model::Signature;
 use refusal::Refusal;
 use transitions::single::Singleness;
 use tree::file::ParsedTree;
-ghost use mathlib.Core.Path.{_≡_};
 ghost use Prim.Native.Nat.{_≤_};
 ghost use lib.ListN.{length};
 

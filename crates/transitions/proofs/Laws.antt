@@ -21,7 +21,7 @@ use Rattle.automaton.specs.declared.Header.{Header}
 use Rattle.automaton.specs.declared.Rule.{Rule}
 use Rattle.automaton.specs.declared.Scope.{Scope}
 use Rattle.automaton.specs.declared.rules.RuleBytes.{RuleBytes}
-use Rattle.transitions.specs.Transitions.{placeNumber, moveNumber, covers, fits, withIf, addedBy, nextStates}
+use Rattle.transitions.specs.Transitions.{placeNumber, moveNumber, fits, withIf, addedBy, nextStates}
 use Rattle.transitions.specs.Compiled.{cellOf, RuleFits, Stepped, Added, Holds}
 use Rattle.transitions.specs.Single.{meet, meetsOne, singleFrom}
 

@@ -30,7 +30,7 @@ use Rattle.automaton.specs.declared.Rule.{Rule}
 use Rattle.automaton.specs.declared.Scope.{Scope}
 use Rattle.automaton.specs.declared.file.Parsed.{Parsed}
 use Rattle.automaton.specs.declared.rules.RuleBytes.{RuleBytes}
-use Rattle.automaton.proofs.Passed.{rule-in, FileRead, file-read}
+use Rattle.automaton.proofs.Passed.{rule-in, file-read}
 use Rattle.transitions.specs.Transitions.{Covers, Applies, Allowed, placeNumber, moveNumber, covers, fits, withIf, addedBy, nextStates, automatonOf}
 
 -- ---- numbers tell places and moves apart

@@ -1,52 +1,28 @@
 -- A list passes lines 10 to 12 exactly where it writes a tree over the signature no higher than 64, and that tree is the one that is read.
 -- Assumes nothing.
-use Prim.Native.Nat.{ℕ, zero, suc, _+_, _≤_, _<_}
+use Prim.Native.Nat.{ℕ, zero, suc, _+_, _<_}
 use native.Mathlib.Omega.{arith}
-use native.Mathlib.Decide.{decLt}
 use mathlib.Core.Path.{_≡_, refl, sym, ap, _∙_}
 use mathlib.Core.Bool.{Bool, true, false}
 use mathlib.Core.Logic.{_↔_}
 use mathlib.Core.List.{List, [], _∷_, _++_, append-assoc, append-nil}
 use lib.ListN.{length, getD}
 use borrow.Author.Tests.{lt-leb, leb-false}
-use Rattle.blocks.specs.Search.{lowestFrom, lowest, pickFound}
-use Rattle.blocks.specs.declared.Found.{Found}
-use Rattle.blocks.specs.declared.Found.the-variants.{At, Nothing}
+use Rattle.blocks.specs.Search.{lowest}
+use Rattle.blocks.proofs.Laws.{lowest-nothing, find-nothing}
 use Rattle.relation.specs.Sets.{member}
 use Rattle.model.specs.Trees.{Tree, leaf, node, height, size}
 use Rattle.model.specs.declared.Signature.{Signature}
-use Rattle.refusal.specs.Checks.{refuseAt, _andThen_}
+use Rattle.refusal.specs.Checks.{_andThen_}
 use Rattle.refusal.specs.declared.Check.the-variants.{Passed}
 use Rattle.refusal.specs.declared.Fault.{Fault}
-use Rattle.refusal.proofs.Passed.{clash, both-passed}
+use Rattle.refusal.proofs.Passed.{clash, both-passed, at-passed}
 use Rattle.tree.specs.Preorder.{preorder, Writes, Shaped, Below, Stands}
 use Rattle.tree.specs.Nodes.{noSymbol, symbolsCheck, opened, partsFrom, shapeCheck, forest, firstTree, treeOf, onward, depthOf, refuseDeep, heightCheck, nodesCheck}
 use Rattle.tree.specs.Signatures.{shaped-over, over-shaped}
 use Rattle.tree.specs.Standing.{forest-preorder, stands}
 use Rattle.tree.specs.declared.nodes.Depth.{Depth}
 use Rattle.tree.specs.declared.nodes.Depth.the-variants.{Next, Deep}
-
--- ---- a search that finds nothing
-
-none-found : (p : ℕ → Bool) (i n : ℕ) → lowestFrom p i n ≡ Nothing → (k : ℕ) → i ≤ k → k < i + n → p k ≡ false
-unfolding lowestFrom
-none-found p i zero e k lo hi = absurd (omega arith)
-none-found p i (suc n) e k lo hi = go (p i) refl e (none-found p (suc i) n) (decLt i k)
-  where
-    go : (t : Bool) → p i ≡ t → pickFound t (At i) (lowestFrom p (suc i) n) ≡ Nothing
-        → (lowestFrom p (suc i) n ≡ Nothing → (k : ℕ) → suc i ≤ k → k < suc i + n → p k ≡ false) → Dec (i < k) → p k ≡ false
-    go true here q later d = clash (cc)
-    go false here q later (yes past) = later q k past (omega arith)
-    go false here q later (no past) = let same : k ≡ i = omega arith in rw same here
-
-find-none : (p : ℕ → Bool) (i n : ℕ) → ((k : ℕ) → i ≤ k → k < i + n → p k ≡ false) → lowestFrom p i n ≡ Nothing
-unfolding lowestFrom
-find-none p i zero h = refl
-find-none p i (suc n) h = rw (h i (omega arith) (omega arith)) (find-none p (suc i) n (λ k lo hi. h k (omega arith) (omega arith)))
-
-at-passed : (f : Found) (fault : Fault) (file : ℕ) → refuseAt fault file f ≡ Passed → f ≡ Nothing
-at-passed (At i) fault file e = clash (cc)
-at-passed Nothing fault file e = refl
 
 -- ---- line 10 passes exactly where each symbol is below the number of symbols
 
@@ -66,8 +42,8 @@ unfolding symbolsCheck noSymbol
 below sg s = (
   (λ e.
       let none = at-passed (lowest (noSymbol sg s) (length s)) Fault.Symbol 1 e in
-      below-each (sg .symbols) s (λ i l. leb-false _ _ (none-found (noSymbol sg s) 0 (length s) none i (omega arith) (omega arith)))),
-  (λ h. rw (find-none (noSymbol sg s) 0 (length s) (λ i lo hi. lt-leb _ _ (each-below (sg .symbols) s h i (omega arith))))),
+      below-each (sg .symbols) s (λ i l. leb-false _ _ (lowest-nothing (noSymbol sg s) 0 (length s) none i (omega arith) (omega arith)))),
+  (λ h. rw (find-nothing (noSymbol sg s) 0 (length s) (λ i lo hi. lt-leb _ _ (each-below (sg .symbols) s h i (omega arith))))),
 )
 
 -- ---- line 11 passes exactly where the list writes as many trees as parts are open

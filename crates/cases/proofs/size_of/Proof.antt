@@ -1,6 +1,5 @@
 -- `cases::size_of` meets its contract: a `u32` has at most 32 bits on.
 -- Assumes nothing.
-use borrow.Author.Needs.{needs}
 use native.Mathlib.Omega.{arith}
 use lib.Count.{ones-le}
 use Rattle.cases.proofs.size_of.Statement.{statement}

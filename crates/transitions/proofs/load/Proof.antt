@@ -1,11 +1,9 @@
 -- `transitions::load` meets its contract: a file that reads has its contents compiled, and a refused one leaves the table.
 -- Assumes nothing.
 use borrow.Author.Needs.{needs}
-use Prim.Native.Nat.{ℕ}
 use mathlib.Core.Path.{_≡_, refl, sym, _∙_}
-use mathlib.Core.List.{List}
 use native.Mathlib.Omega.{arith}
-use lib.ListN.{length, take, length-append}
+use lib.ListN.{take, length-append}
 use Rattle.blocks.specs.Blocks.{content}
 use Rattle.blocks.proofs.Laws.{joined-is}
 use Rattle.automaton.specs.File.{parsed}

@@ -1,6 +1,5 @@
 -- `transitions::single::share` meets its contract: the tests in turn.
 -- Assumes nothing.
-use borrow.Author.Needs.{needs}
 use borrow.Author.Tests.{eq-eqb, ne-eqb}
 use Rattle.transitions.proofs.single.share.Statement.{statement}
 use Rattle.transitions.proofs.single.share.Tie as tie

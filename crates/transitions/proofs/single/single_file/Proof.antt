@@ -1,17 +1,15 @@
 -- `transitions::single::single_file` meets its contract: of a file that reads, the contents are asked.
 -- Assumes nothing.
 use borrow.Author.Needs.{needs}
-use Prim.Native.Nat.{ℕ}
 use mathlib.Core.Path.{_≡_, sym, _∙_}
-use mathlib.Core.List.{List}
 use native.Mathlib.Omega.{arith}
-use lib.ListN.{length, take, length-append}
+use lib.ListN.{take, length-append}
 use Rattle.blocks.specs.Blocks.{content}
 use Rattle.blocks.proofs.Laws.{joined-is}
 use Rattle.automaton.specs.File.{parsed}
 use Rattle.automaton.specs.declared.file.Parsed.{Parsed}
 use Rattle.automaton.proofs.Passed.{file-read}
-use Rattle.transitions.specs.Single.{told, single, singleOf}
+use Rattle.transitions.specs.Single.{single, singleOf}
 use Rattle.transitions.proofs.single.single_file.Statement.{statement}
 use Rattle.transitions.proofs.single.single_file.Tie as tie
 

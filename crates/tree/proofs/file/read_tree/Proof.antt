@@ -5,9 +5,8 @@ use Prim.Native.Nat.{_+_, _-_, _≤_}
 use mathlib.Core.Path.{_≡_, refl, sym, ap, _∙_}
 use native.Mathlib.Omega.{arith}
 use lib.ListN.{length, take, drop, length-append}
-use lib.Seq.{take-at}
 use Rattle.blocks.specs.Blocks.{content}
-use Rattle.blocks.proofs.Laws.{content-length}
+use Rattle.blocks.proofs.Laws.{content-length, joined-is}
 use Rattle.refusal.specs.Lines.{fileCheck}
 use Rattle.refusal.specs.declared.Check.the-variants.{Passed}
 use Rattle.refusal.proofs.Passed.{file-passed}
@@ -18,47 +17,47 @@ use Rattle.tree.proofs.file.read_tree.Statement.{statement}
 use Rattle.tree.proofs.file.read_tree.Tie as tie
 
 -- lines 1 and 2 have passed
-file-is : (c : tie.After-enum-told) → fileCheck treeFormat (c .before .before .before .before .before .args .file .now) ≡ Passed
-file-is c = rw (← c .before .before .before .format .ensures) (sym (c .before .before .file-check .ensures) ∙ c .enum-told .given .1)
+file-is : (c : tie.After-enum-told) → fileCheck treeFormat (c .before .before .before .before .args .file .now) ≡ Passed
+file-is c = sym (c .before .before .file-check .ensures) ∙ c .enum-told .given .1
 
 -- the part of the buffer that is lent on holds the joined contents
-content-is : (c : tie.After-join) → take (c .join .result) (c .join .last .1 .0) ≡ content (c .before .before .before .before .before .before .before .args .file .now)
-content-is c = rw (c .join .ensures .1) (take-at _ _ _ (sym (c .join .ensures .0)))
+content-is : (c : tie.After-join) → take (c .join .result) (c .join .last .1 .0) ≡ content (c .before .before .before .before .before .before .args .file .now)
+content-is c = joined-is _ _ _ _ (c .join .ensures .0) (c .join .ensures .1)
 
-content-size : (c : tie.After-join) → 508 ≤ length (content (c .before .before .before .before .before .before .before .args .file .now))
+content-size : (c : tie.After-join) → 508 ≤ length (content (c .before .before .before .before .before .before .args .file .now))
 content-size c =
-    let s = c .before .before .before .before .before .before .before .args .file .now in
+    let s = c .before .before .before .before .before .before .args .file .now in
     let size = file-passed treeFormat s (file-is (c .before .before)) in
     omega (arith, content-length s)
 
-layout-is : (c : tie.After-layout-check) → layoutCheck (content (c .before .before .before .before .before .before .before .before .before .before .args .file .now)) ≡ c .layout-check .result
+layout-is : (c : tie.After-layout-check) → layoutCheck (content (c .before .before .before .before .before .before .before .before .before .args .file .now)) ≡ c .layout-check .result
 layout-is c = sym (c .layout-check .ensures ∙ ap layoutCheck (content-is (c .before .before .before)))
 
-layout-passes : (c : tie.After-enum-told2) → layoutCheck (content (c .before .before .before .before .before .before .before .before .before .before .before .before .args .file .now)) ≡ Passed
+layout-passes : (c : tie.After-enum-told2) → layoutCheck (content (c .before .before .before .before .before .before .before .before .before .before .before .args .file .now)) ≡ Passed
 layout-passes c = layout-is (c .before .before) ∙ c .enum-told2 .given .1
 
 body-is : (c : tie.After-body-check) →
-    bodyCheck (c .before .before .before .before .before .before .before .before .before .before .before .before .before .args .signature) (content (c .before .before .before .before .before .before .before .before .before .before .before .before .before .args .file .now)) ≡ c .body-check .result
+    bodyCheck (c .before .before .before .before .before .before .before .before .before .before .before .before .args .signature) (content (c .before .before .before .before .before .before .before .before .before .before .before .before .args .file .now)) ≡ c .body-check .result
 body-is c = sym (c .body-check .ensures ∙ ap (bodyCheck _) (content-is (c .before .before .before .before .before .before)))
 
 module _ (c : tie.After-count) where
-  count-is : c .count .result ≡ countOf (content (c .before .before .before .before .before .before .before .before .before .before .before .before .before .before .before .before .args .file .now))
+  count-is : c .count .result ≡ countOf (content (c .before .before .before .before .before .before .before .before .before .before .before .before .before .before .before .args .file .now))
   count-is = c .count .ensures .0 ∙ ap countOf (content-is (c .before .before .before .before .before .before .before .before .before))
 
-  laid-out : (c .count .result ≤ 4096) × (4 + c .count .result ≤ length (content (c .before .before .before .before .before .before .before .before .before .before .before .before .before .before .before .before .args .file .now)))
+  laid-out : (c .count .result ≤ 4096) × (4 + c .count .result ≤ length (content (c .before .before .before .before .before .before .before .before .before .before .before .before .before .before .before .args .file .now)))
   laid-out =
       let l = layout-passed _ (layout-passes (c .before .before .before .before)) in
       rw count-is (l .most, l .nodes)
 
   -- what is copied
   nodes-are : take (4 + c .count .result - 4) (drop 4 (take (c .before .before .before .before .before .before .before .before .before .join .result) (c .before .before .before .before .before .before .before .before .before .join .last .1 .0)))
-      ≡ nodesOf (c .count .result) (content (c .before .before .before .before .before .before .before .before .before .before .before .before .before .before .before .before .args .file .now))
+      ≡ nodesOf (c .count .result) (content (c .before .before .before .before .before .before .before .before .before .before .before .before .before .before .before .args .file .now))
   nodes-are =
       let same : 4 + c .count .result - 4 ≡ c .count .result = omega arith in
       rw (same, content-is (c .before .before .before .before .before .before .before .before .before))
 
-  nodes-size : length (nodesOf (c .count .result) (content (c .before .before .before .before .before .before .before .before .before .before .before .before .before .before .before .before .args .file .now))) ≡ c .count .result
-  nodes-size = nodes-length _ (content (c .before .before .before .before .before .before .before .before .before .before .before .before .before .before .before .before .args .file .now)) (laid-out .1)
+  nodes-size : length (nodesOf (c .count .result) (content (c .before .before .before .before .before .before .before .before .before .before .before .before .before .before .before .args .file .now))) ≡ c .count .result
+  nodes-size = nodes-length _ (content (c .before .before .before .before .before .before .before .before .before .before .before .before .before .before .before .args .file .now)) (laid-out .1)
 
 -- every check has passed
 reads : tie.Need-returns-4
@@ -76,9 +75,8 @@ read-tree-spec =
     tie.close
     (tie.spec
     (λ c κs. search needs)
-    (λ c κs. search needs)
     (λ c. search needs)
-    (λ c. (rw (← c .before .before .before .before .format .ensures, sym (c .before .before .before .file-check .ensures) ∙ c .before .refusal .given .1), refl))
+    (λ c. (rw (sym (c .before .before .before .file-check .ensures) ∙ c .before .refusal .given .1), refl))
     (λ c. search needs)
     (λ c. search needs)
     (λ c κs. let size = file-passed treeFormat _ (file-is (c .before)) in omega arith)
