@@ -1,0 +1,79 @@
+-- The proof of the cycle of calls {part_at}: the table is that of the tree that stands at the node. The measure is what is left of the list.
+-- Assumes nothing.
+use borrow.Author.Needs.{needs}
+use native.Mathlib.Omega.{arith}
+use mathlib.Core.Path.{refl, sym, ap₂, _∙_}
+use Prim.Native.Nat.{ℕ, _-_, _<_}
+use lib.ListN.{length}
+use Rattle.algorithms.specs.Overloops.{nodeOverloops, overloops}
+use Rattle.tree.specs.Standing.{within, leaf-here, node-here}
+use borrow.Fn.Kinds.{In}
+use borrow.Fn.PlainCycle.{Measures, is, falls, and}
+use Rattle.membership.proofs.part_at.Reads as part-at
+use Rattle.membership.proofs.part_at.Kinds as kinds
+use Rattle.membership.proofs.+part_at.Lts-part_at as lts
+use Rattle.overloops.proofs.leaf_overloops.Reads as leaf-overloops
+use Rattle.overloops.proofs.node_overloops.Reads as node-overloops
+use Rattle.relation.proofs.Relation.empty.Reads as empty
+use Rattle.tree.proofs.nodes.is_branch.Reads as is-branch
+use Rattle.membership.proofs.+part_at.{statement}
+use Rattle.membership.proofs.+part_at.Tie.{close}
+
+abbrev μ : Measures 3 kinds.ps ℕ
+μ κs a = length (a .0 .now) - a .1 .1 .1 .1 .1 .0
+
+-- what `part_at` is given at the measure t, and what it may rely on: calls of it ask for a measure below t
+abbrev given : ℕ → In 3 kinds.ps
+given t = and 3 kinds.ps (is 3 kinds.ps μ t) part-at.Pre
+
+abbrev calls : ℕ → lts.Claims
+calls t = (
+  empty.Asked,
+  empty.Learnt,
+  is-branch.Asked,
+  is-branch.Learnt,
+  and 3 kinds.ps (falls 3 kinds.ps _<_ μ t) part-at.Pre,
+  part-at.Post,
+  node-overloops.Asked,
+  node-overloops.Learnt,
+  leaf-overloops.Asked,
+  leaf-overloops.Learnt,
+)
+
+-- a branch symbol: the parts stand after it, one after the other
+node : (t : ℕ) → lts.Need-returns-2 (calls t) (given t) part-at.Post
+unfolding overloops
+node t c = (
+  omega arith,
+  λ A k e u h.
+      let parts = node-here (sym (c .before .before .before .before .before .before .is-branch .ensures) ∙ c .before .before .before .before .before .if2 .taken) h in
+      let left = c .before .before .before .before .part-at .ensures .1 A k e (parts .l) (parts .left) in
+      let right = c .before .before .before .part-at2 .ensures .1 A k e (parts .r) (rw (left .1) (parts .right)) in
+      rw (parts .tree) (c .node-overloops .ensures A k ∙ ap₂ (nodeOverloops A _ _) (left .0) (right .0), omega arith),
+)
+
+-- a leaf symbol: its overloops are in the table of leaves
+leaf : (t : ℕ) → lts.Need-returns-3 (calls t) (given t) part-at.Post
+unfolding overloops
+leaf t c = (
+  omega arith,
+  λ A k e u h.
+      rw (leaf-here (sym (c .before .before .is-branch .ensures) ∙ c .before .if2 .left) h) (c .leaf-overloops .ensures A (k .proper) e, refl),
+)
+
+-- empty; past the end; read; is_branch; at + 1; left; right; the node's table; the leaf's table; at + 1; the two returns
+pub +part-at-spec : {M : Type 1} → statement M
++part-at-spec =
+    close μ λ t. lts.spec (calls t) (given t) part-at.Post
+    (λ c κs. search needs)
+    (λ c. (omega arith, λ A k e u h. let i = within h in absurd (omega arith)))
+    (λ c. search needs)
+    (λ c κs. search needs)
+    (λ c. omega arith)
+    (λ c κs. (omega arith, c .before .before .before .before .before .before .before .pre .1))
+    (λ c κs. (omega arith, c .before .before .before .before .before .before .before .before .pre .1))
+    (λ c κs. let q = c .before .before .before .before .before .before .before .before .before .before .before .pre .1 in (q .0, q .2, q .3 _))
+    (λ c κs. let q = c .before .before .before .before .before .before .before .pre .1 in (q .1, q .3 _))
+    (λ c. omega arith)
+    (node t)
+    (leaf t)

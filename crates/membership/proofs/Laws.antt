@@ -1,0 +1,59 @@
+-- The answer from the loops at the root; what is known of a tree that was read.
+-- Assumes nothing.
+use Prim.Native.Nat.{ℕ, zero, suc, _≤_, _<_}
+use mathlib.Core.Path.{_≡_, sym, _∙_}
+use mathlib.Core.Bool.{Bool}
+use mathlib.Core.List.{List, [], _∷_}
+use native.Mathlib.Omega.{arith}
+use lib.ListN.{getD, take}
+use Rattle.relation.specs.Rows.{meeting}
+use Rattle.model.specs.Trees.{Tree}
+use Rattle.model.specs.declared.Place.{Place}
+use Rattle.algorithms.specs.Automaton.{Automaton}
+use Rattle.algorithms.specs.Overloops.{loops, accepts?}
+use Rattle.model.specs.declared.Signature.{Signature}
+use Rattle.refusal.specs.declared.Refusal.{Refusal}
+use Rattle.automaton.specs.File.{parsed}
+use Rattle.automaton.specs.declared.Header.{Header}
+use Rattle.automaton.specs.declared.file.Parsed.{Parsed}
+use Rattle.transitions.specs.Transitions.{automatonOf}
+use Rattle.transitions.specs.Compiled.{Compiled, Loaded}
+use Rattle.membership.specs.Prepared.{Prepared, PreparedAfter}
+use Rattle.tree.specs.Preorder.{Writes, Below}
+use Rattle.blocks.specs.Blocks.{content}
+use Rattle.tree.specs.File.{nodesOf, nodesAfter}
+use Rattle.tree.specs.Reading.{TreeRead, nodes-front}
+use Rattle.tree.specs.Signatures.{shaped-over}
+use Rattle.tree.specs.declared.file.ParsedTree.{ParsedTree}
+
+pub accepts-by : (A : Automaton) (t : Tree) (initial final : ℕ) (rows : List ℕ) (b : Bool) → A .initial ≡ initial → A .final ≡ final
+    → rows ≡ loops A Place.Root t → b ≡ meeting rows initial final → b ≡ accepts? A t
+unfolding accepts?
+accepts-by A t initial final rows b i f l m = rw (m, l, i, f)
+
+-- symbols below their count, which is at most 32, are below 32, and so is what stands past the end
+pub below-32 : (m : ℕ) (s : List ℕ) → m ≤ 32 → Below m s → (i : ℕ) → getD s i 0 < 32
+unfolding Below
+below-32 m [] l h i = omega arith
+below-32 m (σ ∷ s) l h zero = omega (arith, h .0)
+below-32 m (σ ∷ s) l h (suc i) = below-32 m s l (h .1) i
+
+pub written-below : (sg : Signature) (s : List ℕ) (t : Tree) → sg .symbols ≤ 32 → Writes sg s t → (i : ℕ) → getD s i 0 < 32
+written-below sg s t l w = below-32 (sg .symbols) s l (rw (w .text) (shaped-over sg t (w .over) .1))
+
+-- what reading leaves at the front of the buffer
+pub front-is : (sg : Signature) (s : List ℕ) (k : ℕ) (buffer after : List ℕ) (r : ParsedTree) → r ≡ ParsedTree.Nodes k → after ≡ nodesAfter r s buffer
+    → TreeRead sg s k → take k after ≡ nodesOf k (content s)
+front-is sg s k buffer after r e f t = rw (f, e) (nodes-front sg s k buffer t)
+
+-- what loading and preparing leave, by the answer
+pub loaded-read : (r : Parsed) (h : Header) (s before after : List ℕ) → r ≡ Parsed.Read h → Loaded r s before after → Compiled (automatonOf h (content s)) after
+loaded-read r h s before after e l = rw e at l
+
+pub loaded-refused : (r : Parsed) (x : Refusal) (s before after : List ℕ) → r ≡ Parsed.Refused x → Loaded r s before after → after ≡ before
+loaded-refused r x s before after e l = rw e at l
+
+abbrev pub prepared-read : (r : Parsed) (h : Header) (s t l t′ l′ : List ℕ) → r ≡ Parsed.Read h → r ≡ parsed s → PreparedAfter r s t l t′ l′ → Prepared h t′ l′
+prepared-read r h s t l t′ l′ e f a =
+    let b : PreparedAfter (Parsed.Read h) s t l t′ l′ = rw e at a in
+    record { file = s; read = sym f ∙ e; compiled = b .0; leaves-are = b .1 }

@@ -1,0 +1,15 @@
+-- `membership::accepts` meets its contract: a loop at the root leads from an initial state to a final one.
+-- Assumes nothing.
+use borrow.Author.Needs.{needs}
+use Rattle.membership.proofs.Laws.{accepts-by}
+use Rattle.membership.proofs.accepts.Statement.{statement}
+use Rattle.membership.proofs.accepts.Tie as tie
+
+pub accepts-spec : {M : Type 1} → statement M
+accepts-spec =
+    tie.close
+    (tie.spec
+    (λ c. search needs)
+    (λ c κs. search needs)
+    (λ c κs. search needs)
+    (λ c. λ A o k e u h. accepts-by A u _ _ _ _ (o .initial) (o .final) (c .before .root-loops .ensures A k e u h) (c .meets .ensures)))

@@ -1,0 +1,49 @@
+-- `membership::judge` meets its contract: a refused file is told, and any other is judged by its automaton. Demand 2 is then a law of the definition.
+-- Assumes nothing.
+use borrow.Author.Needs.{needs}
+use Prim.Native.Nat.{ℕ}
+use mathlib.Core.Path.{_≡_, sym, _∙_}
+use mathlib.Core.List.{List}
+use Rattle.membership.specs.Judged.{judged}
+use Rattle.membership.specs.Prepared.{Prepared}
+use Rattle.membership.specs.Demand2.{Demand2}
+use Rattle.membership.specs.Proved.{judged-right}
+use Rattle.membership.specs.declared.Answer.{Answer}
+use Rattle.membership.proofs.Laws.{prepared-read}
+use Rattle.membership.proofs.judge.Statement.{statement}
+use Rattle.membership.proofs.judge.Tie as tie
+
+-- what is equal to the definition's answer meets demand 2
+both : (w s : List ℕ) (r : Answer) → r ≡ judged w s → (r ≡ judged w s) × Demand2 w s r
+both w s r e = (e, rw e (judged-right w s))
+
+-- the tables are prepared
+abbrev prepared : (c : tie.After-known-told2) → Prepared (c .before .header .given .0 .0) (c .before .before .before .prepare .last .1 .0)
+    (c .before .before .before .prepare .last .1 .1 .0)
+prepared c = prepared-read _ _ _ _ _ _ _ (c .before .header .given .1) (c .before .before .before .prepare .ensures .0) (c .before .before .before .prepare .ensures .1)
+
+refused-is : (c : tie.After-known-told) → Answer.Refused (c .before .refusal .given .0 .0)
+    ≡ judged (c .before .before .before .before .before .before .before .before .args .automaton .now) (c .before .before .before .before .before .before .before .before .args .tree .now)
+unfolding judged
+refused-is c = rw (sym (c .before .before .before .prepare .ensures .0) ∙ c .before .refusal .given .1)
+
+judged-is : (c : tie.After-judge-file) → c .judge-file .result
+    ≡ judged (c .before .before .before .before .before .before .before .before .before .before .before .args .automaton .now)
+    (c .before .before .before .before .before .before .before .before .before .before .before .args .tree .now)
+unfolding judged
+judged-is c =
+    let told = c .before .before .before in
+    rw (sym (told .before .before .before .prepare .ensures .0) ∙ told .before .header .given .1) (c .judge-file .ensures (prepared told))
+
+pub judge-spec : {M : Type 1} → statement M
+judge-spec =
+    tie.close
+    (tie.spec
+    (λ c κs. search needs)
+    (λ c. search needs)
+    (λ c. search needs)
+    (λ c. sym (prepared (c .before) .compiled .size))
+    (λ c. sym (prepared (c .before .before) .leaves-are .size))
+    (λ c κs. prepared (c .before .before))
+    (λ c. both _ _ _ (refused-is c))
+    (λ c. both _ _ _ (judged-is c)))

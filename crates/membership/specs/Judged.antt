@@ -1,0 +1,42 @@
+-- What judging answers of an automaton's file and a tree's file: the first refusal, the automaton's file first, else whether the automaton
+-- accepts the tree.
+use mathlib.Core.Bool.{Bool, true, false}
+use mathlib.Core.List.{List}
+use Prim.Native.Nat.{ℕ}
+use Rattle.model.specs.declared.Signature.{Signature}
+use Rattle.algorithms.specs.Automaton.{Automaton}
+use Rattle.algorithms.specs.Overloops.{accepts?}
+use Rattle.blocks.specs.Blocks.{content}
+use Rattle.automaton.specs.File.{parsed}
+use Rattle.automaton.specs.declared.Header.{Header}
+use Rattle.automaton.specs.declared.file.Parsed.{Parsed}
+use Rattle.transitions.specs.Transitions.{automatonOf}
+use Rattle.tree.specs.File.{nodesOf, readTree}
+use Rattle.tree.specs.Nodes.{treeOf}
+use Rattle.tree.specs.declared.file.ParsedTree.{ParsedTree}
+use Rattle.membership.specs.declared.Answer.{Answer}
+
+-- the symbols of an automaton, against which a tree is read
+abbrev pub signatureOf : Header → Signature
+signatureOf h = record { symbols = h .symbols; branches = h .branches }
+
+abbrev pub told : Bool → Answer
+told true = Answer.Accepted
+told false = Answer.Other
+
+-- of a tree's file s that was read
+abbrev pub answerOf : Automaton → ParsedTree → (s : List ℕ) → Answer
+answerOf A (ParsedTree.Nodes k) s = told (accepts? A (treeOf (A .branches) (nodesOf k (content s))))
+answerOf A (ParsedTree.Refused r) s = Answer.Refused r
+
+-- of a tree's file s, by the automaton of a header and the joined contents p
+unfoldable pub judgedBy : Header → (p s : List ℕ) → Answer
+judgedBy h p s = answerOf (automatonOf h p) (readTree (signatureOf h) s) s
+
+abbrev pub judgedRead : Parsed → (w s : List ℕ) → Answer
+judgedRead (Parsed.Read h) w s = judgedBy h (content w) s
+judgedRead (Parsed.Refused r) w s = Answer.Refused r
+
+-- of an automaton's file w and a tree's file s
+unfoldable pub judged : (w s : List ℕ) → Answer
+judged w s = judgedRead (parsed w) w s

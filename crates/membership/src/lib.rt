@@ -1,0 +1,185 @@
+// Membership: whether an automaton accepts a tree, by the overloops of its parts, from the leaves up.
+use automaton::Header;
+use automaton::file::Parsed;
+use model::Place;
+use model::Side;
+use model::Signature;
+use model::Symbol;
+use overloops::leaf_loops;
+use overloops::leaf_overloops;
+use overloops::node_loops;
+use overloops::node_overloops;
+use refusal::Refusal;
+use relation::Relation;
+use tree::file::ParsedTree;
+use tree::nodes::is_branch;
+ghost use mathlib.Core.Path.{_≡_};
+ghost use Prim.Native.Nat.{ℕ, _+_, _<_, _≤_};
+ghost use lib.ListN.{length, getD};
+ghost use Rattle.model.specs.Trees.{Tree, size};
+ghost use Rattle.algorithms.specs.Automaton.{Automaton};
+ghost use Rattle.algorithms.specs.Overloops.{overloops, loops, accepts?};
+ghost use Rattle.blocks.specs.Blocks.{content};
+ghost use Rattle.automaton.specs.File.{parsed};
+ghost use Rattle.tree.specs.Preorder.{Stands};
+ghost use Rattle.overloops.specs.Tables.{Tabled, Leaves};
+ghost use Rattle.membership.specs.Judged.{judgedBy, judged};
+ghost use Rattle.membership.specs.Prepared.{Of, Prepared, PreparedAfter};
+ghost use Rattle.membership.specs.Demand2.{Demand2};
+
+// What judging answers: accepted, judged and not accepted, or refused.
+pub enum Answer {
+    Accepted,
+    Other,
+    Refused(Refusal),
+}
+
+// The overloops of the tree at a node, and the node after it.
+struct Part {
+    overloops: Relation,
+    next: usize,
+}
+
+// The overloops of the tree at node `at`, as the part of its parent on a side.
+fn part_at(
+    symbols: &[u8],
+    branches: u32,
+    states: usize,
+    table: &[u32],
+    leaves: &[u32],
+    at: usize,
+    side: Side,
+) -> Part
+    requires { ⌜ (length (now table) ≡ 9216) × (length (now leaves) ≡ 1536) × (states ≤ 24) × ((i : ℕ) → getD (now symbols) i 0 < 32) ⌝ }
+    ensures { λ r. ⌜ (at ≤ r .next) × ((A : Automaton) → Tabled A states (now (table .entry)) → Leaves A (now (leaves .entry))
+        → (t : Tree) → Stands branches (now (symbols .entry)) at t
+        → (r .overloops .rows ≡ overloops A (Place.Child side) t) × (r .next ≡ at + size t)) ⌝ }
+{
+    if symbols.len() <= at {
+        return Part {
+            overloops: Relation::empty(),
+            next: at,
+        };
+    }
+    let symbol = Symbol(symbols[at]);
+    if is_branch(branches, symbol) {
+        let left = part_at(symbols, branches, states, table, leaves, at + 1, Side::Left);
+        let right = part_at(
+            symbols,
+            branches,
+            states,
+            table,
+            leaves,
+            left.next,
+            Side::Right,
+        );
+        let l = left.overloops;
+        let r = right.overloops;
+        Part {
+            overloops: node_overloops(table, states, symbol, side, l, r),
+            next: right.next,
+        }
+    } else {
+        Part {
+            overloops: leaf_overloops(leaves, symbol, side),
+            next: at + 1,
+        }
+    }
+}
+
+// The loops at the root of the whole tree.
+fn root_loops(
+    symbols: &[u8],
+    branches: u32,
+    states: usize,
+    table: &[u32],
+    leaves: &[u32],
+) -> Relation
+    requires { ⌜ (0 < length (now symbols)) × (length (now table) ≡ 9216) × (length (now leaves) ≡ 1536) × (states ≤ 24)
+        × ((i : ℕ) → getD (now symbols) i 0 < 32) ⌝ }
+    ensures { λ r. ⌜ ((A : Automaton) → Tabled A states (now (table .entry)) → Leaves A (now (leaves .entry))
+        → (t : Tree) → Stands branches (now (symbols .entry)) 0 t → r .rows ≡ loops A Place.Root t) ⌝ }
+{
+    let symbol = Symbol(symbols[0]);
+    if is_branch(branches, symbol) {
+        let left = part_at(symbols, branches, states, table, leaves, 1, Side::Left);
+        let right = part_at(
+            symbols,
+            branches,
+            states,
+            table,
+            leaves,
+            left.next,
+            Side::Right,
+        );
+        let l = left.overloops;
+        let r = right.overloops;
+        node_loops(table, states, symbol, Place::Root, l, r)
+    } else {
+        leaf_loops(table, states, symbol, Place::Root)
+    }
+}
+
+// Whether the automaton accepts the tree that a node list writes.
+fn accepts(symbols: &[u8], header: Header, table: &[u32], leaves: &[u32]) -> bool
+    requires { ⌜ (0 < length (now symbols)) × (length (now table) ≡ 9216) × (length (now leaves) ≡ 1536) × (header .states ≤ 24)
+        × ((i : ℕ) → getD (now symbols) i 0 < 32) ⌝ }
+    ensures { λ r. ⌜ ((A : Automaton) → Of A header → Tabled A (header .states) (now (table .entry)) → Leaves A (now (leaves .entry))
+        → (t : Tree) → Stands (header .branches) (now (symbols .entry)) 0 t → r ≡ accepts? A t) ⌝ }
+{
+    let states = header.states as usize;
+    root_loops(symbols, header.branches, states, table, leaves).meets(
+        header.initial,
+        header.accepting,
+    )
+}
+
+// Judges a tree's file by an automaton that was prepared.
+pub fn judge_file(header: Header, table: &[u32], leaves: &[u32], file: &[u8]) -> Answer
+    requires { ⌜ Prepared header (now table) (now leaves) ⌝ }
+    ensures { λ r. ⌜ ((p : Prepared header (now (table .entry)) (now (leaves .entry)))
+        → r ≡ judgedBy header (content (p .file)) (now (file .entry))) ⌝ }
+{
+    let mut nodes = [0u8; 4096];
+    let signature = Signature {
+        symbols: header.symbols,
+        branches: header.branches,
+    };
+    match tree::file::read_tree(file, signature, &mut nodes) {
+        ParsedTree::Refused(refusal) => Answer::Refused(refusal),
+        ParsedTree::Nodes(k) => {
+            if accepts(&nodes[..k], header, table, leaves) {
+                Answer::Accepted
+            } else {
+                Answer::Other
+            }
+        }
+    }
+}
+
+// Reads an automaton's file and prepares its tables for judging. A refused file leaves both as they were.
+pub fn prepare(file: &[u8], table: &mut [u32; 9216], leaves: &mut [u32; 1536]) -> Parsed
+    ensures { λ r. ⌜ (r ≡ parsed (now (file .entry)))
+        × PreparedAfter r (now (file .entry)) (now (table .entry)) (now (leaves .entry)) (now (table .exit)) (now (leaves .exit)) ⌝ }
+{
+    match transitions::load(file, table) {
+        Parsed::Refused(refusal) => Parsed::Refused(refusal),
+        Parsed::Read(header) => {
+            overloops::fill_leaves(table, header.states as usize, leaves);
+            Parsed::Read(header)
+        }
+    }
+}
+
+// Judges a tree's file by an automaton's file.
+pub fn judge(automaton: &[u8], tree: &[u8]) -> Answer
+    ensures equals { λ r. ⌜ r ≡ judged (now (automaton .entry)) (now (tree .entry)) ⌝ }
+    ensures right { λ r. ⌜ Demand2 (now (automaton .entry)) (now (tree .entry)) r ⌝ }
+{
+    let mut table = [0u32; 9216];
+    let mut leaves = [0u32; 1536];
+    match prepare(automaton, &mut table, &mut leaves) {
+        Parsed::Refused(refusal) => Answer::Refused(refusal),
+        Parsed::Read(header) => judge_file(header, &table, &leaves, tree),
+    }
+}

@@ -1,0 +1,2 @@
+-- What lent tables hold of an automaton.
+pub mod Tables

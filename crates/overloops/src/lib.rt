@@ -1,0 +1,146 @@
+// The overloops of nodes, formed from the compiled transitions. One function forms the loops of a node, and everything else goes through it.
+use model::Move;
+use model::Place;
+use model::Side;
+use model::State;
+use model::Symbol;
+use relation::Relation;
+ghost use mathlib.Core.Path.{_≡_};
+ghost use Prim.Native.Nat.{_+_, _<_, _≤_};
+ghost use lib.ListN.{length, take, drop};
+ghost use Rattle.algorithms.specs.Automaton.{Automaton, Proper};
+ghost use Rattle.algorithms.specs.Overloops as spec;
+ghost use Rattle.transitions.specs.Compiled.{Compiled};
+ghost use Rattle.overloops.specs.Tables.{Tabled, sideNumber, leafCell, Leaves, Put};
+
+// The 24 rows that stand in a table from a place on.
+fn rows_at(table: &[u32], at: usize) -> Relation
+    requires { ⌜ at + 24 ≤ length (now table) ⌝ }
+    ensures { λ r. ⌜ r .rows ≡ take 24 (drop at (now (table .entry))) ⌝ }
+{
+    let mut rows = [0u32; 24];
+    for p in 0..24 {
+        rows[p] = table[at + p];
+    }
+    Relation { rows }
+}
+
+// The pairs of the transitions with a symbol, a place and a move.
+fn moves(table: &[u32], symbol: Symbol, place: Place, step: Move) -> Relation
+    requires { ⌜ (length (now table) ≡ 9216) × (symbol .0 < 32) ⌝ }
+    ensures { λ r. ⌜ ((A : Automaton) → Compiled A (now (table .entry)) → r .rows ≡ spec.moves A (symbol .0) place step) ⌝ }
+{
+    rows_at(table, transitions::cell(symbol, place, step, State(0)))
+}
+
+// The loops of a node at a place, from the overloops of its parts.
+pub fn node_loops(
+    table: &[u32],
+    states: usize,
+    symbol: Symbol,
+    place: Place,
+    left: Relation,
+    right: Relation,
+) -> Relation
+    requires { ⌜ (length (now table) ≡ 9216) × (states ≤ 24) × (symbol .0 < 32) ⌝ }
+    ensures { λ r. ⌜ ((A : Automaton) → Tabled A states (now (table .entry))
+        → r .rows ≡ spec.nodeLoops A place (symbol .0) (left .rows) (right .rows)) ⌝ }
+{
+    moves(table, symbol, place, Move::Stay)
+        .join(moves(table, symbol, place, Move::Down(Side::Left)).then(left))
+        .join(moves(table, symbol, place, Move::Down(Side::Right)).then(right))
+        .close(states)
+}
+
+// The overloops of a node as a part of its parent, from those of its own parts.
+pub fn node_overloops(
+    table: &[u32],
+    states: usize,
+    symbol: Symbol,
+    side: Side,
+    left: Relation,
+    right: Relation,
+) -> Relation
+    requires { ⌜ (length (now table) ≡ 9216) × (states ≤ 24) × (symbol .0 < 32) ⌝ }
+    ensures { λ r. ⌜ ((A : Automaton) → Tabled A states (now (table .entry))
+        → r .rows ≡ spec.nodeOverloops A (Place.Child side) (symbol .0) (left .rows) (right .rows)) ⌝ }
+{
+    let place = Place::Child(side);
+    node_loops(table, states, symbol, place, left, right).then(moves(
+        table,
+        symbol,
+        place,
+        Move::Up,
+    ))
+}
+
+// The loops of a leaf at a place: a node whose parts have no overloops.
+pub fn leaf_loops(table: &[u32], states: usize, symbol: Symbol, place: Place) -> Relation
+    requires { ⌜ (length (now table) ≡ 9216) × (states ≤ 24) × (symbol .0 < 32) ⌝ }
+    ensures { λ r. ⌜ ((A : Automaton) → Tabled A states (now (table .entry)) → r .rows ≡ spec.leafLoops A place (symbol .0)) ⌝ }
+{
+    node_loops(
+        table,
+        states,
+        symbol,
+        place,
+        Relation::empty(),
+        Relation::empty(),
+    )
+}
+
+fn side_number(side: Side) -> usize
+    ensures { λ r. ⌜ (r ≡ sideNumber side) × (r < 2) ⌝ }
+{
+    match side {
+        Side::Left => 0,
+        Side::Right => 1,
+    }
+}
+
+fn leaf_cell(symbol: Symbol, side: Side) -> usize
+    requires { ⌜ symbol .0 < 32 ⌝ }
+    ensures { λ r. ⌜ (r ≡ leafCell (symbol .0) side) × (r + 24 ≤ 1536) ⌝ }
+{
+    ((symbol.0 as usize) * 2 + side_number(side)) * 24
+}
+
+// The overloops of a leaf as a part, from the table of leaves.
+pub fn leaf_overloops(leaves: &[u32], symbol: Symbol, side: Side) -> Relation
+    requires { ⌜ (length (now leaves) ≡ 1536) × (symbol .0 < 32) ⌝ }
+    ensures { λ r. ⌜ ((A : Automaton) → Proper A → Leaves A (now (leaves .entry)) → r .rows ≡ spec.leafOverloops A (Place.Child side) (symbol .0)) ⌝ }
+{
+    rows_at(leaves, leaf_cell(symbol, side))
+}
+
+// Writes 24 rows into a table from a place on.
+fn put_rows(table: &mut [u32], at: usize, rows: Relation)
+    requires { ⌜ at + 24 ≤ length (now table) ⌝ }
+    ensures { λ _. ⌜ Put at (rows .rows) (now (table .entry)) (now (table .exit)) ⌝ }
+{
+    for p in 0..24 {
+        table[at + p] = rows.rows[p];
+    }
+}
+
+// Writes the overloops of a leaf as a part into the table of leaves.
+fn put_leaf(table: &[u32], states: usize, symbol: Symbol, side: Side, leaves: &mut [u32])
+    requires { ⌜ (length (now table) ≡ 9216) × (states ≤ 24) × (symbol .0 < 32) × (length (now leaves) ≡ 1536) ⌝ }
+    ensures { λ _. ⌜ ((A : Automaton) → Tabled A states (now (table .entry))
+        → Put (leafCell (symbol .0) side) (spec.leafOverloops A (Place.Child side) (symbol .0)) (now (leaves .entry)) (now (leaves .exit))) ⌝ }
+{
+    let none = Relation::empty();
+    let rows = node_overloops(table, states, symbol, side, none, none);
+    put_rows(leaves, leaf_cell(symbol, side), rows);
+}
+
+// Fills the table of leaves.
+pub fn fill_leaves(table: &[u32], states: usize, leaves: &mut [u32])
+    requires { ⌜ (length (now table) ≡ 9216) × (states ≤ 24) × (length (now leaves) ≡ 1536) ⌝ }
+    ensures { λ _. ⌜ ((A : Automaton) → Tabled A states (now (table .entry)) → Leaves A (now (leaves .exit))) ⌝ }
+{
+    for symbol in 0..32u8 {
+        put_leaf(table, states, Symbol(symbol), Side::Left, leaves);
+        put_leaf(table, states, Symbol(symbol), Side::Right, leaves);
+    }
+}
