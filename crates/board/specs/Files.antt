@@ -1,0 +1,42 @@
+-- The files of document 01's examples, byte by byte, and case (k).
+use Prim.Native.Nat.{ℕ, _-_, _/_, _%_}
+use mathlib.Core.Path.{_≡_, refl}
+use mathlib.Core.List.{List, [], _∷_, _++_}
+use lib.ListN.{length, replicate}
+use Rattle.blocks.specs.Blocks.{wordSum, blockCheck}
+
+-- a file of one block with a payload
+unfoldable pub sealed : List ℕ → List ℕ
+unfolding blockCheck wordSum
+sealed payload =
+    let content = payload ++ replicate (508 - length payload) 0 in
+    let check = blockCheck content 0 in
+    content ++ (check % 256 ∷ check / 256 % 256 ∷ check / 65536 % 256 ∷ check / 16777216 ∷ [])
+
+-- n = 2, m = 3, `rules` rules, start {0}, final {1}, branch {2}
+unfoldable pub walker : (rules : ℕ) → List ℕ → List ℕ
+walker rules bytes =
+    (87 ∷ 2 ∷ 3 ∷ 0 ∷ rules ∷ 0 ∷ 0 ∷ 0 ∷ 1 ∷ 0 ∷ 0 ∷ 0 ∷ 2 ∷ 0 ∷ 0 ∷ 0 ∷ 4 ∷ 0 ∷ 0 ∷ 0 ∷ []) ++ bytes
+
+-- the four rules of A
+unfoldable pub rulesA : List ℕ
+rulesA = 2 ∷ 0 ∷ 0 ∷ 3 ∷ 0 ∷ 2 ∷ 0 ∷ 2 ∷ 3 ∷ 0 ∷ 1 ∷ 0 ∷ 2 ∷ 1 ∷ 1 ∷ 2 ∷ 1 ∷ 2 ∷ 1 ∷ 1 ∷ []
+
+-- A, and A+, which adds the rule 1 0 0 0 1
+unfoldable pub fileA : List ℕ
+unfolding sealed walker rulesA
+fileA = sealed (walker 4 rulesA)
+
+unfoldable pub fileA+ : List ℕ
+unfolding sealed walker rulesA
+fileA+ = sealed (walker 5 (rulesA ++ (1 ∷ 0 ∷ 0 ∷ 0 ∷ 1 ∷ [])))
+
+-- the letter with a list of symbols, fewer than 256 of them
+unfoldable pub letter : List ℕ → List ℕ
+unfolding sealed
+letter symbols = sealed (84 ∷ 0 ∷ length symbols ∷ 0 ∷ symbols)
+
+-- (k) the letter 2 0 1 has check 262231
+pub check-k : blockCheck (unfold letter in letter (2 ∷ 0 ∷ 1 ∷ [])) 0 ≡ 262231
+unfolding letter sealed blockCheck wordSum
+check-k = refl
