@@ -1,0 +1,55 @@
+-- Demand 3, of the survey's answer to an automaton's file and a plan buffer, and of the buffer afterwards. Definitions only: trees, runs and
+-- counts, and nothing of tables. The quotations are of demand 3.
+use mathlib.Core.Path.{_≡_}
+use mathlib.Core.Logic.{_↔_}
+use mathlib.Core.List.{List, _++_}
+use Prim.Native.Nat.{ℕ, _*_, _≤_}
+use lib.ListN.{length, drop}
+use Rattle.model.specs.Counting.{FoundAt, OpenAt, EmptyAt}
+use Rattle.model.specs.Saturation.{WitnessRow, Found}
+use Rattle.model.specs.Demand.{WitnessFor}
+use Rattle.algorithms.specs.Automaton.{Automaton, alphabetOf}
+use Rattle.algorithms.specs.Saturate.{languageOf, saturationOf}
+use Rattle.blocks.specs.Blocks.{content}
+use Rattle.automaton.specs.File.{parsed}
+use Rattle.automaton.specs.declared.Header.{Header}
+use Rattle.automaton.specs.declared.file.Parsed.{Parsed}
+use Rattle.transitions.specs.Transitions.{automatonOf}
+use Rattle.emptiness.specs.Surveyed.{planBytes, Outcome}
+use Rattle.emptiness.specs.declared.Survey.{Survey}
+
+-- the plan of a Found h with so many rows, and the buffer that has it
+pub record Planned (A : Automaton) (h rows : ℕ) (before after : List ℕ) : Type 0 where
+  -- "The plan it then wrote is the one of document 01's survey" ..
+  pub plan : List WitnessRow
+  pub is-surveys : saturationOf A ≡ Found h plan
+  -- .. "has N(h-1) + 1 rows and builds a tree of height h that passes."
+  pub witness : WitnessFor (alphabetOf A) (languageOf A) h plan
+  pub rows-told : rows ≡ length plan
+  -- "later bytes .. are unchanged" (document 01)
+  pub bytes : after ≡ planBytes plan ++ drop (3 * rows) before
+
+-- one of the three answers, at a height of at most 64
+abbrev pub AtMost64 : Survey → Type 0
+AtMost64 (Survey.Found h rows) = h ≤ 64
+AtMost64 (Survey.Open h) = h ≤ 64
+AtMost64 (Survey.Empty h) = h ≤ 64
+AtMost64 (Survey.Refused r) = ⊥
+
+-- of an automaton that was read, and a buffer of 195 bytes or more
+pub record Surveys (A : Automaton) (before : List ℕ) (o : Outcome) : Type 0 where
+  -- "The survey says Found h exactly when a tree of height h passes, none lower does and N(h-1) is at most 64."
+  pub found : (h : ℕ) → ((rows : ℕ) × (o .answer ≡ Survey.Found h rows)) ↔ FoundAt (alphabetOf A) (languageOf A) 64 h
+  pub plan : (h rows : ℕ) → o .answer ≡ Survey.Found h rows → Planned A h rows before (o .buffer)
+  -- "The survey says Open h exactly when h is the least with N(h) over 64 and no tree of height at most h passes."
+  pub open-says : (h : ℕ) → (o .answer ≡ Survey.Open h) ↔ OpenAt (alphabetOf A) (languageOf A) 64 h
+  -- "It says Empty h exactly when no tree of any size passes, no N(i) is over 64 and h is the least with N(h) = N(h-1)."
+  pub empty : (h : ℕ) → (o .answer ≡ Survey.Empty h) ↔ EmptyAt (alphabetOf A) (languageOf A) 64 h
+  -- "It gives no fourth answer, and the height told is at most 64."
+  pub height : AtMost64 (o .answer)
+  -- "the whole buffer on other verdicts .. unchanged" (document 01)
+  pub kept : ((h rows : ℕ) → o .answer ≡ Survey.Found h rows → ⊥) → o .buffer ≡ before
+
+-- "Take every walker file that reads without refusal and every plan buffer of 195 bytes or more, whatever stands in it."
+abbrev pub Demand3 : (w before : List ℕ) → Outcome → Type 0
+Demand3 w before o = (h : Header) → parsed w ≡ Parsed.Read h → 195 ≤ length before → Surveys (automatonOf h (content w)) before o

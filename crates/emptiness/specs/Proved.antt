@@ -1,0 +1,99 @@
+-- Demand 3 holds of what the survey answers and leaves.
+use mathlib.Core.Path.{_≡_, refl, sym, ap, subst, _∙_}
+use mathlib.Core.Logic.{_↔_}
+use mathlib.Core.Bool.{false}
+use mathlib.Core.List.{List, _++_}
+use Prim.Native.Nat.{ℕ, _*_, _≤_}
+use native.Mathlib.Omega.{arith}
+use borrow.Author.Tests.{le-ltb}
+use lib.ListN.{length, drop}
+use Rattle.model.specs.Counting.{FoundAt, OpenAt, EmptyAt}
+use Rattle.model.specs.Saturation.{WitnessRow, Verdict, Found, Open, Empty, Unended}
+use Rattle.model.specs.Demand.{Told, Correct}
+use Rattle.algorithms.specs.Automaton.{Automaton, alphabetOf}
+use Rattle.algorithms.specs.Saturate.{languageOf, saturationOf}
+use Rattle.algorithms.specs.Theorems.{demand-3}
+use Rattle.blocks.specs.Blocks.{content}
+use Rattle.refusal.proofs.Passed.{clash}
+use Rattle.automaton.specs.File.{parsed}
+use Rattle.automaton.specs.declared.Header.{Header}
+use Rattle.automaton.specs.declared.file.Parsed.{Parsed}
+use Rattle.transitions.specs.Transitions.{automatonOf}
+use Rattle.transitions.proofs.Meaning.{file-proper}
+use Rattle.emptiness.specs.Surveyed.{planBytes, told, written, bufferCheck, Outcome, outcome, surveyed}
+use Rattle.emptiness.specs.Demand3.{Planned, AtMost64, Surveys, Demand3}
+use Rattle.emptiness.specs.declared.Survey.{Survey}
+
+-- ---- a verdict and how it is told
+
+-- what is told of a verdict, back to the verdict; where the rounds ran out nothing right is told
+found-back : (v : Verdict) (h rows : ℕ) → told v ≡ Survey.Found h rows → (p : List WitnessRow) × (v ≡ Found h p) × (rows ≡ length p)
+found-back (Found k p) h rows e =
+    let same : k ≡ h = cc in
+    let count : length p ≡ rows = cc in
+    (p, ap (λ (n : ℕ). Found n p) same, sym count)
+found-back (Open k) h rows e = clash (cc)
+found-back (Empty k) h rows e = clash (cc)
+found-back Unended h rows e = clash (cc)
+
+open-back : (v : Verdict) → Told 64 v → (h : ℕ) → told v ≡ Survey.Open h → v ≡ Open h
+open-back (Found k p) t h e = clash (cc)
+open-back (Open k) t h e = let same : k ≡ h = cc in ap Open same
+open-back (Empty k) t h e = clash (cc)
+open-back Unended t h e = absurd t
+
+empty-back : (v : Verdict) (h : ℕ) → told v ≡ Survey.Empty h → v ≡ Empty h
+empty-back (Found k p) h e = clash (cc)
+empty-back (Open k) h e = clash (cc)
+empty-back (Empty k) h e = let same : k ≡ h = cc in ap Empty same
+empty-back Unended h e = clash (cc)
+
+height-told : (v : Verdict) → Told 64 v → AtMost64 (told v)
+height-told (Found k p) t = t
+height-told (Open k) t = t
+height-told (Empty k) t = t
+height-told Unended t = absurd t
+
+buffer-kept : (v : Verdict) (before : List ℕ) → ((h rows : ℕ) → told v ≡ Survey.Found h rows → ⊥) → written v before ≡ before
+buffer-kept (Found k p) before n = absurd (n k (length p) refl)
+buffer-kept (Open k) before n = refl
+buffer-kept (Empty k) before n = refl
+buffer-kept Unended before n = refl
+
+bytes-written : (v : Verdict) (h rows : ℕ) (p : List WitnessRow) (before : List ℕ) → v ≡ Found h p → rows ≡ length p
+    → written v before ≡ planBytes p ++ drop (3 * rows) before
+bytes-written v h rows p before e f = rw (e, f)
+
+-- ---- a correct verdict, told and written
+
+module _ (A : Automaton) (before : List ℕ) (c : Correct (alphabetOf A) (languageOf A) 64 (saturationOf A)) where
+  planned : (h rows : ℕ) → told (saturationOf A) ≡ Survey.Found h rows → Planned A h rows before (written (saturationOf A) before)
+  planned h rows e =
+      let f = found-back (saturationOf A) h rows e in
+      record {
+        plan = f .0;
+        is-surveys = f .1;
+        witness = c .witness h (f .0) (f .1);
+        rows-told = f .2;
+        bytes = bytes-written (saturationOf A) h rows (f .0) before (f .1) (f .2);
+      }
+
+  surveys : Surveys A before (outcome (told (saturationOf A)) (written (saturationOf A) before))
+  surveys =
+      record {
+        found = λ h. (
+          λ x. let f = found-back (saturationOf A) h (x .0) (x .1) in c .says-found h .0 (f .0, f .1),
+          λ a. let f = c .says-found h .1 a in (length (f .0), ap told (f .1)),
+        );
+        plan = planned;
+        open-says = λ h. (λ e. c .says-open h .0 (open-back (saturationOf A) (c .told) h e), λ a. ap told (c .says-open h .1 a));
+        empty = λ h. (λ e. c .says-empty h .0 (empty-back (saturationOf A) h e), λ a. ap told (c .says-empty h .1 a));
+        height = height-told (saturationOf A) (c .told);
+        kept = buffer-kept (saturationOf A) before;
+      }
+
+pub surveyed-right : (w before : List ℕ) → Demand3 w before (surveyed w before)
+unfolding surveyed bufferCheck
+surveyed-right w before h read long =
+    rw (read, le-ltb (length before) 195 long)
+    (surveys (automatonOf h (content w)) before (demand-3 (automatonOf h (content w)) (file-proper w h read) .saturation))

@@ -1,0 +1,60 @@
+-- What the survey of an automaton's file answers, and what it leaves in the lent plan buffer (document 01, Survey; line 13 of the table).
+use mathlib.Core.List.{List, [], _∷_, _++_}
+use Prim.Native.Nat.{ℕ, _+_, _*_}
+use lib.ListN.{length, drop}
+use lib.Dec.{ltb}
+use Rattle.model.specs.Saturation.{WitnessRow, Verdict, Found, Open, Empty, Unended}
+use Rattle.algorithms.specs.Automaton.{Automaton}
+use Rattle.algorithms.specs.Saturate.{saturationOf}
+use Rattle.blocks.specs.Blocks.{content}
+use Rattle.refusal.specs.Checks.{refuseIf}
+use Rattle.refusal.specs.declared.Check.{Check}
+use Rattle.refusal.specs.declared.Fault.{Fault}
+use Rattle.automaton.specs.File.{parsed}
+use Rattle.automaton.specs.declared.Header.{Header}
+use Rattle.automaton.specs.declared.file.Parsed.{Parsed}
+use Rattle.transitions.specs.Transitions.{automatonOf}
+use Rattle.emptiness.specs.declared.Survey.{Survey}
+
+-- "Plan row: symbol, left row, right row, 255 255 for a leaf."
+abbrev pub planBytes : List WitnessRow → List ℕ
+planBytes [] = []
+planBytes (r ∷ rows) = r .symbol ∷ r .left ∷ r .right ∷ planBytes rows
+
+-- a verdict as it is told: its height, and the number of rows on Found. (That the rounds never run out is part of demand 3; 255 is no height.)
+abbrev pub told : Verdict → Survey
+told (Found h p) = Survey.Found h (length p)
+told (Open h) = Survey.Open h
+told (Empty h) = Survey.Empty h
+told Unended = Survey.Open 255
+
+-- "Found writes the rows ..; later bytes, and the whole buffer on other verdicts, are unchanged."
+abbrev pub written : Verdict → (buffer : List ℕ) → List ℕ
+written (Found h p) buffer = planBytes p ++ drop (3 * length p) buffer
+written (Open h) buffer = buffer
+written (Empty h) buffer = buffer
+written Unended buffer = buffer
+
+-- 13: plan buffer under 195 bytes; at 195; file 2
+unfoldable pub bufferCheck : List ℕ → Check
+bufferCheck buffer = refuseIf (ltb (length buffer) 195) Fault.Buffer 2 195
+
+-- an answer, and the buffer afterwards
+pub record Outcome : Type 0 where
+  pub answer : Survey
+  pub buffer : List ℕ
+
+abbrev pub outcome : Survey → List ℕ → Outcome
+outcome answer buffer = record { answer = answer; buffer = buffer }
+
+abbrev pub afterCheck : Check → Automaton → (buffer : List ℕ) → Outcome
+afterCheck (Check.Refused r) A buffer = outcome (Survey.Refused r) buffer
+afterCheck Check.Passed A buffer = outcome (told (saturationOf A)) (written (saturationOf A) buffer)
+
+abbrev pub surveyRead : Parsed → (w buffer : List ℕ) → Outcome
+surveyRead (Parsed.Refused r) w buffer = outcome (Survey.Refused r) buffer
+surveyRead (Parsed.Read h) w buffer = afterCheck (bufferCheck buffer) (automatonOf h (content w)) buffer
+
+-- the survey of an automaton's file w, with a lent buffer
+unfoldable pub surveyed : (w buffer : List ℕ) → Outcome
+surveyed w buffer = surveyRead (parsed w) w buffer
