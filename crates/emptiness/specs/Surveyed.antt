@@ -1,6 +1,6 @@
 -- What the survey of an automaton's file answers, and what it leaves in the lent plan buffer (document 01, Survey; line 13 of the table).
 use mathlib.Core.List.{List, [], _∷_, _++_}
-use Prim.Native.Nat.{ℕ, _+_, _*_}
+use Prim.Native.Nat.{ℕ, _*_}
 use lib.ListN.{length, drop}
 use lib.Dec.{ltb}
 use Rattle.model.specs.Saturation.{WitnessRow, Verdict, Found, Open, Empty, Unended}
