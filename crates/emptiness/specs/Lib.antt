@@ -1,4 +1,5 @@
 -- Definitions: what the survey of a file answers, and what it leaves in the plan buffer; demand 3 of these. Then the proof.
+pub mod Classes
 pub mod Surveyed
 pub mod Demand3
 pub mod Proved

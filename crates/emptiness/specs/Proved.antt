@@ -1,13 +1,9 @@
 -- Demand 3 holds of what the survey answers and leaves.
-use mathlib.Core.Path.{_≡_, refl, sym, ap, subst, _∙_}
-use mathlib.Core.Logic.{_↔_}
-use mathlib.Core.Bool.{false}
+use mathlib.Core.Path.{_≡_, refl, sym, ap}
 use mathlib.Core.List.{List, _++_}
-use Prim.Native.Nat.{ℕ, _*_, _≤_}
-use native.Mathlib.Omega.{arith}
+use Prim.Native.Nat.{ℕ, _*_}
 use borrow.Author.Tests.{le-ltb}
 use lib.ListN.{length, drop}
-use Rattle.model.specs.Counting.{FoundAt, OpenAt, EmptyAt}
 use Rattle.model.specs.Saturation.{WitnessRow, Verdict, Found, Open, Empty, Unended}
 use Rattle.model.specs.Demand.{Told, Correct}
 use Rattle.algorithms.specs.Automaton.{Automaton, alphabetOf}
@@ -15,12 +11,9 @@ use Rattle.algorithms.specs.Saturate.{languageOf, saturationOf}
 use Rattle.algorithms.specs.Theorems.{demand-3}
 use Rattle.blocks.specs.Blocks.{content}
 use Rattle.refusal.proofs.Passed.{clash}
-use Rattle.automaton.specs.File.{parsed}
-use Rattle.automaton.specs.declared.Header.{Header}
-use Rattle.automaton.specs.declared.file.Parsed.{Parsed}
 use Rattle.transitions.specs.Transitions.{automatonOf}
 use Rattle.transitions.proofs.Meaning.{file-proper}
-use Rattle.emptiness.specs.Surveyed.{planBytes, told, written, bufferCheck, Outcome, outcome, surveyed}
+use Rattle.emptiness.specs.Surveyed.{planBytes, told, written, bufferCheck, outcome, surveyed}
 use Rattle.emptiness.specs.Demand3.{Planned, AtMost64, Surveys, Demand3}
 use Rattle.emptiness.specs.declared.Survey.{Survey}
 

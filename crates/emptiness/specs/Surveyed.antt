@@ -11,7 +11,6 @@ use Rattle.refusal.specs.Checks.{refuseIf}
 use Rattle.refusal.specs.declared.Check.{Check}
 use Rattle.refusal.specs.declared.Fault.{Fault}
 use Rattle.automaton.specs.File.{parsed}
-use Rattle.automaton.specs.declared.Header.{Header}
 use Rattle.automaton.specs.declared.file.Parsed.{Parsed}
 use Rattle.transitions.specs.Transitions.{automatonOf}
 use Rattle.emptiness.specs.declared.Survey.{Survey}

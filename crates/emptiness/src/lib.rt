@@ -1,4 +1,7 @@
-// Emptiness: what the survey of an automaton's file answers. specs/ has its definition and the proof that the definition meets demand 3.
+// Emptiness: what the survey of an automaton's file answers, and the classes of trees that it goes by. specs/ has the definition of the
+// answer and the proof that it meets demand 3.
+pub mod class;
+
 use refusal::Refusal;
 
 // What the survey answers: a height, with the number of rows of the plan where a tree was found; or a refusal.

@@ -19,6 +19,7 @@ use Rattle.automaton.specs.declared.file.Parsed.{Parsed}
 use Rattle.transitions.specs.Transitions.{automatonOf}
 use Rattle.transitions.specs.Compiled.{Compiled, Loaded}
 use Rattle.membership.specs.Prepared.{Prepared, PreparedAfter}
+use Rattle.overloops.proofs.Laws.{accepting-by}
 use Rattle.tree.specs.Preorder.{Writes, Below}
 use Rattle.blocks.specs.Blocks.{content}
 use Rattle.tree.specs.File.{nodesOf, nodesAfter}
@@ -29,7 +30,7 @@ use Rattle.tree.specs.declared.file.ParsedTree.{ParsedTree}
 pub accepts-by : (A : Automaton) (t : Tree) (initial final : ℕ) (rows : List ℕ) (b : Bool) → A .initial ≡ initial → A .final ≡ final
     → rows ≡ loops A Place.Root t → b ≡ meeting rows initial final → b ≡ accepts? A t
 unfolding accepts?
-accepts-by A t initial final rows b i f l m = rw (m, l, i, f)
+accepts-by A t initial final rows b i f l m = accepting-by A initial final rows (loops A Place.Root t) b i f l m
 
 -- symbols below their count, which is at most 32, are below 32, and so is what stands past the end
 pub below-32 : (m : ℕ) (s : List ℕ) → m ≤ 32 → Below m s → (i : ℕ) → getD s i 0 < 32

@@ -2,7 +2,6 @@
 use mathlib.Core.Path.{_≡_}
 use mathlib.Core.List.{List}
 use Prim.Native.Nat.{ℕ}
-use Rattle.algorithms.specs.Automaton.{Automaton}
 use Rattle.blocks.specs.Blocks.{content}
 use Rattle.automaton.specs.File.{parsed}
 use Rattle.automaton.specs.declared.Header.{Header}
@@ -10,11 +9,6 @@ use Rattle.automaton.specs.declared.file.Parsed.{Parsed}
 use Rattle.transitions.specs.Transitions.{automatonOf}
 use Rattle.transitions.specs.Compiled.{Compiled}
 use Rattle.overloops.specs.Tables.{Leaves}
-
--- the automaton has the header's sets
-pub record Of (A : Automaton) (h : Header) : Type 0 where
-  pub initial : A .initial ≡ h .initial
-  pub final : A .final ≡ h .accepting
 
 -- the tables are those of a file that reads with this header
 pub record Prepared (h : Header) (table leaves : List ℕ) : Type 0 where

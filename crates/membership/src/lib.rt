@@ -22,9 +22,9 @@ ghost use Rattle.algorithms.specs.Overloops.{overloops, loops, accepts?};
 ghost use Rattle.blocks.specs.Blocks.{content};
 ghost use Rattle.automaton.specs.File.{parsed};
 ghost use Rattle.tree.specs.Preorder.{Stands};
-ghost use Rattle.overloops.specs.Tables.{Tabled, Leaves};
+ghost use Rattle.overloops.specs.Tables.{Of, Tabled, Leaves};
 ghost use Rattle.membership.specs.Judged.{judgedBy, judged};
-ghost use Rattle.membership.specs.Prepared.{Of, Prepared, PreparedAfter};
+ghost use Rattle.membership.specs.Prepared.{Prepared, PreparedAfter};
 ghost use Rattle.membership.specs.Demand2.{Demand2};
 
 // What judging answers: accepted, judged and not accepted, or refused.

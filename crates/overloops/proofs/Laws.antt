@@ -3,6 +3,7 @@
 use Prim.Native.Nat.{ℕ, _+_, _≤_, _<_}
 use mathlib.Core.Path.{_≡_, refl, sym, ap, _∙_}
 use mathlib.Core.Logic.{_⊎_, inl, inr}
+use mathlib.Core.Bool.{Bool}
 use mathlib.Core.List.{List}
 use native.Mathlib.Decide.{ℕ-discrete}
 use native.Mathlib.Omega.{arith}
@@ -11,9 +12,9 @@ use lib.Seq.{length-take-le, getD-take, getD-drop, getD-set-same, getD-set-other
 use Rattle.model.specs.declared.Side.{Side}
 use Rattle.model.specs.declared.Place.{Place}
 use Rattle.model.specs.declared.Move.{Move}
-use Rattle.relation.specs.Rows.{noPairs, joined, composed, closed}
+use Rattle.relation.specs.Rows.{noPairs, joined, composed, closed, meeting}
 use Rattle.algorithms.specs.Automaton.{Automaton, Proper}
-use Rattle.algorithms.specs.Overloops.{moves, nodeLoops, upClosure, leafOverloops, nodeOverloops}
+use Rattle.algorithms.specs.Overloops.{accepting, moves, nodeLoops, upClosure, leafOverloops, nodeOverloops}
 use Rattle.algorithms.specs.OverloopLaws.{row-moves, leaf-as-node, within-leafOverloops}
 use Rattle.transitions.specs.Compiled.{cellOf, Compiled}
 use Rattle.transitions.proofs.Laws.{place-small, move-small}
@@ -60,6 +61,11 @@ pub leaf-formed : (A : Automaton) → Proper A → (τ : Place) (σ : ℕ) {L R 
     → rows ≡ leafOverloops A τ σ
 unfolding nodeOverloops leafOverloops
 leaf-formed A P τ σ l r e = rw (e, l, r, leaf-as-node A P τ σ)
+
+-- acceptance by the loops at the root
+pub accepting-by : (A : Automaton) (initial final : ℕ) (rows loops : List ℕ) (b : Bool) → A .initial ≡ initial → A .final ≡ final → rows ≡ loops
+    → b ≡ meeting rows initial final → b ≡ accepting A loops
+accepting-by A initial final rows loops b i f l m = rw (m, l, i, f)
 
 pub side-small : (s : Side) → sideNumber s < 2
 side-small Side.Left = omega arith

@@ -8,7 +8,13 @@ use Rattle.model.specs.declared.Side.{Side}
 use Rattle.model.specs.declared.Place.{Place}
 use Rattle.algorithms.specs.Automaton.{Automaton, Proper}
 use Rattle.algorithms.specs.Overloops.{leafOverloops}
+use Rattle.automaton.specs.declared.Header.{Header}
 use Rattle.transitions.specs.Compiled.{Compiled}
+
+-- the automaton has the header's sets
+pub record Of (A : Automaton) (h : Header) : Type 0 where
+  pub initial : A .initial ≡ h .initial
+  pub final : A .final ≡ h .accepting
 
 -- the table is that of an automaton with n states
 pub record Tabled (A : Automaton) (n : ℕ) (table : List ℕ) : Type 0 where

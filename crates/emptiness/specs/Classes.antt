@@ -1,0 +1,6 @@
+-- A class of the code as the definition has it.
+use Rattle.algorithms.specs.Saturate.{Parts, parts}
+use Rattle.emptiness.specs.declared.class.Class.{Class}
+
+abbrev pub partsIn : Class → Parts
+partsIn c = parts (c .left .rows) (c .right .rows)
