@@ -1,6 +1,6 @@
 -- Every row is right: one test that is computed over the table, and a law that turns it into what a row says.
 use mathlib.Core.Path.{_≡_, refl, sym, ap, ap₂, _∙_}
-use mathlib.Core.Logic.{_↔_, Iff·symm, Iff·trans}
+use mathlib.Core.Logic.{_↔_}
 use mathlib.Core.Bool.{Bool, true, false, _&&_}
 use mathlib.Core.List.{List, [], _∷_, List·Memᴰ·head, List·Memᴰ·tail, List·Memᴰ·not-nil}
 use Prim.Native.Nat.{ℕ}
@@ -31,7 +31,6 @@ use Rattle.refusal.specs.Lines.{lengthCheck, blocksCheck, fileCheck, kindCheck,
 use Rattle.automaton.specs.Rules.{sortPlace, sortMove, ruleAt, misplaced, ruleCheck}
 use Rattle.automaton.specs.File.{countsCheck, setsCheck, rulesCheck, layoutCheck, bodyCheck}
 use Rattle.transitions.specs.Transitions.{nextStates}
-use Rattle.tree.specs.File.{layoutCheck as treeLayout, bodyCheck as treeBody}
 use Rattle.tree.specs.Nodes.{noSymbol, symbolsCheck, partsFrom, shapeCheck, forest, depthOf, heightCheck, nodesCheck}
 use Rattle.algorithms.specs.Overloops.{moves, leafLoops, nodeLoops, upClosure, leafOverloops, nodeOverloops, overloops, loops, accepts?}
 use Rattle.board.specs.Files.{sealed, walker, rulesA, fileA, fileA+, letter}

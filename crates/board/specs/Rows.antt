@@ -14,7 +14,7 @@ use Rattle.automaton.specs.declared.file.Parsed.{Parsed}
 use Rattle.transitions.specs.Transitions.{automatonOf}
 use Rattle.membership.specs.Judged.{signatureOf}
 use Rattle.membership.specs.Demand2.{FileOf}
-use Rattle.board.specs.Files.{sealed, walker, rulesA, fileA, fileA+, letter}
+use Rattle.board.specs.Files.{sealed, fileA, fileA+, letter}
 
 pub record Row : Type 0 where
   pub automaton : List ℕ

@@ -1,7 +1,7 @@
 -- `exports::twa_prepare` meets its contract: it is `prepare`, with the header as numbers.
 -- Assumes nothing.
 use borrow.Author.Needs.{needs}
-use mathlib.Core.Path.{refl, sym, ap, _∙_}
+use mathlib.Core.Path.{sym, ap, _∙_}
 use Rattle.automaton.specs.declared.file.Parsed.{Parsed}
 use Rattle.exports.specs.Numbers.{parsedNumber, headerLeft}
 use Rattle.exports.proofs.twa_prepare.Statement.{statement}
