@@ -31,6 +31,7 @@ use Rattle.refusal.specs.Lines.{lengthCheck, blocksCheck, fileCheck, kindCheck,
 use Rattle.automaton.specs.Rules.{sortPlace, sortMove, ruleAt, misplaced, ruleCheck}
 use Rattle.automaton.specs.File.{countsCheck, setsCheck, rulesCheck, layoutCheck, bodyCheck}
 use Rattle.transitions.specs.Transitions.{nextStates}
+use Rattle.tree.specs.File.{layoutCheck as treeLayout, bodyCheck as treeBody}
 use Rattle.tree.specs.Nodes.{noSymbol, symbolsCheck, partsFrom, shapeCheck, forest, depthOf, heightCheck, nodesCheck}
 use Rattle.algorithms.specs.Overloops.{moves, leafLoops, nodeLoops, upClosure, leafOverloops, nodeOverloops, overloops, loops, accepts?}
 use Rattle.board.specs.Files.{sealed, walker, rulesA, fileA, fileA+, letter}
