@@ -1,5 +1,5 @@
--- Demand 3, of the survey's answer to an automaton's file and a plan buffer, and of the buffer afterwards. Definitions only: trees, runs and
--- counts, and nothing of tables. The quotations are of demand 3.
+-- Demand 3, of the survey's answer to an automaton's file and a plan buffer, and of the buffer afterwards. Definitions only, of trees, runs
+-- and counts; the plan is document 01's survey's. The quotations are of demand 3.
 use mathlib.Core.Path.{_≡_}
 use mathlib.Core.Logic.{_↔_}
 use mathlib.Core.List.{List, _++_}
