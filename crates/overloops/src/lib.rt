@@ -66,7 +66,7 @@ pub fn node_overloops(
         → r .rows ≡ spec.nodeOverloops A (Place.Child side) (symbol .0) (left .rows) (right .rows)) ⌝ }
 {
     let place = Place::Child(side);
-    node_loops(table, states, symbol, place, left, right).then(moves(
+    node_loops(table, states, symbol, place, left, right).then_few(moves(
         table,
         symbol,
         place,

@@ -1,5 +1,5 @@
 -- The loops of the methods, over lists of rows: what one turn of each does, and what holds at its end. Assumes nothing.
-use mathlib.Core.Path.{_≡_, sym, ap, ap₂, _∙_, subst}
+use mathlib.Core.Path.{_≡_, sym, ap, _∙_}
 use mathlib.Core.Bool.{_&&_}
 use mathlib.Core.List.{List}
 use Prim.Native.Nat.{ℕ, zero, suc, _+_, _/_, _%_, _^_, _<_}
@@ -10,12 +10,11 @@ use lib.Count.{ones, onesIn, ones-step}
 use native.Mathlib.Numerals.{add-one}
 use lib.Bits.{bitOr}
 use lib.Dec.{eqb}
-use lib.ListN.{length, getD, set, drop, length-set, length-map}
-use lib.Seq.{drop-cons, getD-set-same}
+use lib.ListN.{length, getD, set, drop, length-map}
+use lib.Seq.{drop-cons}
 use Rattle.relation.specs.Bit.{bit}
-use Rattle.relation.specs.Rows.{joined, orIf, gathered, imageOf, composed, absorbed, closed, sameRows, bitsOf, countOf}
-use Rattle.relation.specs.Pairs.{length-joined, row-joined, row-composed, row-absorbed}
-use Rattle.relation.specs.Chain.{length-closed}
+use Rattle.relation.specs.Rows.{joined, orIf, absorbed, sameRows, bitsOf, countOf}
+use Rattle.relation.specs.Pairs.{length-joined, row-joined, row-absorbed}
 use Rattle.relation.proofs.Over.{over, over-turn}
 
 pub join-turn : (a b rows : List ℕ) (p : ℕ) → length a ≡ length b → p < length a → rows ≡ over (joined a b) a p
@@ -24,32 +23,12 @@ join-turn a b rows p e l r =
     over-turn (joined a b) a rows p (bitOr (getD rows p 0) (getD b p 0)) (length-joined a b e) l r
     (λ g. ap (λ (x : ℕ). bitOr x (getD b p 0)) g ∙ sym (row-joined a b p))
 
-pub compose-turn : (a b rows : List ℕ) (p v : ℕ) → p < length a → rows ≡ over (composed a b) a p → v ≡ imageOf b (getD rows p 0)
-    → set rows p v ≡ over (composed a b) a (p + 1)
-compose-turn a b rows p v l r h =
-    over-turn (composed a b) a rows p v (length-map a (imageOf b)) l r (λ g. h ∙ ap (imageOf b) g ∙ sym (row-composed a b p))
-
--- A turn of the inner loop of `close`, which begins with the rows s but for row k, and goes through that row, whatever it is.
-pub absorb-turn : (k row : ℕ) (s rows : List ℕ) (p v : ℕ) → p < length s → rows ≡ over (absorbed k row (set s k row)) (set s k row) p
-    → v ≡ orIf (bit (getD rows p 0) k) (getD rows p 0) row → set rows p v ≡ over (absorbed k row (set s k row)) (set s k row) (p + 1)
+-- A turn of the inner loop of `close`, which goes through state k by the row `row`.
+pub absorb-turn : (k row : ℕ) (s rows : List ℕ) (p v : ℕ) → p < length s → rows ≡ over (absorbed k row s) s p
+    → v ≡ orIf (bit (getD rows p 0) k) (getD rows p 0) row → set rows p v ≡ over (absorbed k row s) s (p + 1)
 absorb-turn k row s rows p v l r h =
-    let start = set s k row in
-    over-turn (absorbed k row start) start rows p v (length-map start (λ (x : ℕ). orIf (bit x k) x row)) (simp length-set l) r
-    (λ g. h ∙ ap (λ (x : ℕ). orIf (bit x k) x row) g ∙ sym (row-absorbed k row start p))
-
--- A turn of the outer loop of `close`, from the end of the inner one.
-pub close-turn : (a s : List ℕ) (k row : ℕ) → k < length a → s ≡ closed k a → row ≡ bitOr (getD s k 0) (2 ^ k)
-    → absorbed k row (set s k row) ≡ closed (k + 1) a
-close-turn a s k row l e h =
-    let c = closed k a in
-    let whole = bitOr (getD c k 0) (2 ^ k) in
-    ap₂ (λ (x : List ℕ) (r : ℕ). absorbed k r (set x k r)) e (h ∙ ap (λ (x : List ℕ). bitOr (getD x k 0) (2 ^ k)) e)
-    ∙ ap (λ (r : ℕ). absorbed k r (set c k whole)) (sym (getD-set-same c k whole 0 (subst (λ (n : ℕ). k < n) (sym (length-closed k a)) l)))
-    ∙ ap (λ (n : ℕ). closed n a) (sym (add-one k))
-
-pub gather-turn : (acc from p : ℕ) (rows : List ℕ) → p < length rows
-    → gathered acc from p (drop p rows) ≡ gathered (orIf (bit from p) acc (getD rows p 0)) from (p + 1) (drop (p + 1) rows)
-gather-turn acc from p rows l = rw (add-one, drop-cons rows p 0)
+    over-turn (absorbed k row s) s rows p v (length-map s (λ (x : ℕ). orIf (bit x k) x row)) l r
+    (λ g. h ∙ ap (λ (x : ℕ). orIf (bit x k) x row) g ∙ sym (row-absorbed k row s p))
 
 pub same-turn : (xs ys : List ℕ) (p : ℕ) → p < length xs → p < length ys
     → sameRows (drop p xs) (drop p ys) ≡ (eqb (getD xs p 0) (getD ys p 0) && sameRows (drop (p + 1) xs) (drop (p + 1) ys))

@@ -3,7 +3,10 @@
 pub mod set;
 
 ghost use mathlib.Core.Path.{_≡_};
-ghost use Prim.Native.Nat.{_%_, _<_, _≤_};
+ghost use Prim.Native.Nat.{_-_, _%_, _^_, _<_, _≤_};
+ghost use lib.Bits.{bitOr};
+ghost use Rattle.relation.specs.Lowest.{lowestOf, restOf};
+ghost use Rattle.relation.specs.Rows.{flagOf, Occupied, Between};
 ghost use Rattle.relation.specs.Rows.{noPairs, added, joined, orIf, imageOf, composed, closed, meeting, sameRows, holding, countOf};
 
 // A relation on states, document 01's table of pairs: "join, close and follow each give back a new table of pairs" (follow is `then`).
@@ -16,6 +19,46 @@ fn or_if(t: u32, a: u32, b: u32) -> u32
     ensures { λ r. ⌜ r ≡ orIf (t % 2) a b ⌝ }
 {
     if t % 2 == 1 { a | b } else { a }
+}
+
+// The lowest member of a set that is not empty.
+fn lowest(set: u32) -> usize
+    requires { ⌜ 0 < set ⌝ }
+    ensures { λ r. ⌜ r ≡ lowestOf set ⌝ }
+{
+    u32::trailing_zeros(set) as usize
+}
+
+// The set without its lowest member.
+fn without_lowest(set: u32) -> u32
+    requires { ⌜ 0 < set ⌝ }
+    ensures { λ r. ⌜ r ≡ restOf set ⌝ }
+{
+    set & (set - 1)
+}
+
+// The set of p alone where row p is not 0, and else the empty set.
+fn flag(row: u32, p: usize) -> u32
+    requires { ⌜ p < 24 ⌝ }
+    ensures { λ r. ⌜ r ≡ flagOf row p ⌝ }
+{
+    if row != 0 { 1 << p } else { 0 }
+}
+
+// The states of a row but p.
+fn others(row: u32, p: usize) -> u32
+    requires { ⌜ p < 24 ⌝ }
+    ensures { λ r. ⌜ r ≡ bitOr row (2 ^ p) - 2 ^ p ⌝ }
+{
+    (row | 1 << p) - (1 << p)
+}
+
+// The set of the states below `states`.
+fn below(states: usize) -> u32
+    requires { ⌜ states < 32 ⌝ }
+    ensures { λ r. ⌜ r ≡ 2 ^ states - 1 ⌝ }
+{
+    (1 << states) - 1
 }
 
 impl Relation {
@@ -58,33 +101,86 @@ impl Relation {
         ensures { λ r. ⌜ r ≡ imageOf (self .rows) from ⌝ }
     {
         let mut to: u32 = 0;
-        for p in 0..24 {
-            to = or_if(from >> p, to, self.rows[p]);
+        let mut rest = from % 16777216;
+        while rest != 0 {
+            to |= self.rows[lowest(rest)];
+            rest = without_lowest(rest);
         }
         to
+    }
+
+    // The states from which some pair leads.
+    fn occupied(self) -> u32
+        ensures { λ r. ⌜ Occupied (self .rows) r ⌝ }
+    {
+        let mut set: u32 = 0;
+        for p in 0..24 {
+            set |= flag(self.rows[p], p);
+        }
+        set
     }
 
     // The pairs (p, r) for each pair (p, q) of this and (q, r) of the other.
     pub fn then(mut self, other: Relation) -> Relation
         ensures { λ r. ⌜ r .rows ≡ composed (self .rows) (other .rows) ⌝ }
     {
-        for p in 0..24 {
+        let mut rest = self.occupied();
+        while rest != 0 {
+            let p = lowest(rest);
             self.rows[p] = other.image(self.rows[p]);
+            rest = without_lowest(rest);
         }
         self
     }
 
-    // The reflexive transitive closure over the states below `states`, by Warshall's algorithm.
+    // The same as `then`, column by column: for another relation with few rows that are not 0.
+    pub fn then_few(self, other: Relation) -> Relation
+        ensures { λ r. ⌜ r .rows ≡ composed (self .rows) (other .rows) ⌝ }
+    {
+        let mut out = [0u32; 24];
+        let mut rest = other.occupied();
+        while rest != 0 {
+            let q = lowest(rest);
+            let row = other.rows[q];
+            for p in 0..24 {
+                out[p] = or_if(self.rows[p] >> q, out[p], row);
+            }
+            rest = without_lowest(rest);
+        }
+        Relation { rows: out }
+    }
+
+    // The states to which another state leads and that lead to another state: every chain of pairs passes through these alone.
+    fn between(self) -> u32
+        ensures { λ r. ⌜ Between (self .rows) r ⌝ }
+    {
+        let mut entered: u32 = 0;
+        let mut left: u32 = 0;
+        for p in 0..24 {
+            let row = others(self.rows[p], p);
+            entered |= row;
+            left |= flag(row, p);
+        }
+        entered & left
+    }
+
+    // The reflexive transitive closure over the states below `states`, by Warshall's algorithm, through the states of `between` alone.
     pub fn close(mut self, states: usize) -> Relation
         requires { ⌜ states ≤ 24 ⌝ }
         ensures { λ r. ⌜ r .rows ≡ closed states (self .rows) ⌝ }
     {
-        for k in 0..states {
-            let row = self.rows[k] | 1 << k;
-            self.rows[k] = row;
+        let mask = below(states);
+        let mut rest = self.between() & mask;
+        for p in 0..24 {
+            self.rows[p] |= 1 << p & mask;
+        }
+        while rest != 0 {
+            let k = lowest(rest);
+            let row = self.rows[k];
             for p in 0..24 {
                 self.rows[p] = or_if(self.rows[p] >> k, self.rows[p], row);
             }
+            rest = without_lowest(rest);
         }
         self
     }

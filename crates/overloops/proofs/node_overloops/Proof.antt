@@ -12,4 +12,4 @@ node-overloops-spec =
     (λ c κs. search needs)
     (λ c κs. search needs)
     (λ c κs. search needs)
-    (λ c. λ A k. overloops-formed A _ _ _ _ (c .before .before .node-loops .ensures A k) (c .before .moves .ensures A (k .compiled)) (c .then .ensures)))
+    (λ c. λ A k. overloops-formed A _ _ _ _ (c .before .before .node-loops .ensures A k) (c .before .moves .ensures A (k .compiled)) (c .then-few .ensures)))
