@@ -13,8 +13,8 @@ use lib.Dec.{eqb}
 use lib.ListN.{length, getD, set, drop, length-map}
 use lib.Seq.{drop-cons}
 use Rattle.relation.specs.Bit.{bit}
-use Rattle.relation.specs.Rows.{joined, orIf, absorbed, sameRows, bitsOf, countOf}
-use Rattle.relation.specs.Pairs.{length-joined, row-joined, row-absorbed}
+use Rattle.relation.specs.Rows.{joined, orIf, imageOf, composed, absorbed, sameRows, bitsOf, countOf}
+use Rattle.relation.specs.Pairs.{length-joined, row-joined, row-composed, row-absorbed}
 use Rattle.relation.proofs.Over.{over, over-turn}
 
 pub join-turn : (a b rows : List ℕ) (p : ℕ) → length a ≡ length b → p < length a → rows ≡ over (joined a b) a p
@@ -22,6 +22,11 @@ pub join-turn : (a b rows : List ℕ) (p : ℕ) → length a ≡ length b → p 
 join-turn a b rows p e l r =
     over-turn (joined a b) a rows p (bitOr (getD rows p 0) (getD b p 0)) (length-joined a b e) l r
     (λ g. ap (λ (x : ℕ). bitOr x (getD b p 0)) g ∙ sym (row-joined a b p))
+
+pub compose-turn : (a b rows : List ℕ) (p v : ℕ) → p < length a → rows ≡ over (composed a b) a p → v ≡ imageOf b (getD rows p 0)
+    → set rows p v ≡ over (composed a b) a (p + 1)
+compose-turn a b rows p v l r h =
+    over-turn (composed a b) a rows p v (length-map a (imageOf b)) l r (λ g. h ∙ ap (imageOf b) g ∙ sym (row-composed a b p))
 
 -- A turn of the inner loop of `close`, which goes through state k by the row `row`.
 pub absorb-turn : (k row : ℕ) (s rows : List ℕ) (p v : ℕ) → p < length s → rows ≡ over (absorbed k row s) s p

@@ -124,11 +124,8 @@ impl Relation {
     pub fn then(mut self, other: Relation) -> Relation
         ensures { λ r. ⌜ r .rows ≡ composed (self .rows) (other .rows) ⌝ }
     {
-        let mut rest = self.occupied();
-        while rest != 0 {
-            let p = lowest(rest);
+        for p in 0..24 {
             self.rows[p] = other.image(self.rows[p]);
-            rest = without_lowest(rest);
         }
         self
     }

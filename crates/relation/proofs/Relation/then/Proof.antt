@@ -1,20 +1,60 @@
--- `relation::Relation::then` meets its contract: the rows of the members left are still the old ones, and the others those of `composed`.
--- Assumes nothing.
-use borrow.Author.Needs.{needs}
-use mathlib.Core.Path.{_≡_, sym, ap, subst, _∙_}
+-- `relation::Relation::then` meets its contract: the loop replaces each row by that of `composed`. Assumes nothing.
+use mathlib.Core.Path.{_≡_, refl}
+use Prim.Native.Nat.{_≤_, _-_}
 use native.Mathlib.Omega.{arith}
+use borrow.Author.Needs.{needs}
 use lib.ListN.{length, length-map}
 use Rattle.relation.specs.Rows.{imageOf, composed}
-use Rattle.relation.specs.Pairs.{row-composed}
-use Rattle.relation.proofs.Members.{lowest-row, rest-falls, Mixed, mixed-step, mixed-done, compose-start}
+use Rattle.relation.proofs.Over.{over, over-done}
+use Rattle.relation.proofs.Turns.{compose-turn}
 use Rattle.relation.proofs.Relation.then.Statement.{statement}
 use Rattle.relation.proofs.Relation.then.Tie as tie
 
 abbrev Inv-loop : tie.InvT-loop
-Inv-loop other self₀ rest₀ self rest = Mixed (composed (self₀ .rows) (other .rows)) (self₀ .rows) (self .rows) rest
+Inv-loop other self₀ p₀ self p = (p ≤ 24) × (self .rows ≡ over (composed (self₀ .rows) (other .rows)) (self₀ .rows) p)
 
 abbrev μ-loop : tie.MeasureT-loop
-μ-loop other self₀ rest₀ self rest = rest
+μ-loop other self₀ p₀ self p = 24 - p
+
+loop-holds : tie.Need-loop-holds Inv-loop μ-loop
+loop-holds c = (search needs, refl)
+
+mul-image : tie.Need-mul-image Inv-loop μ-loop
+mul-image c = search needs
+
+element-copy-out-image : tie.Need-element-copy-out-image Inv-loop μ-loop
+element-copy-out-image c = search needs
+
+image-requires : tie.Need-image-requires Inv-loop μ-loop
+image-requires c κs = search needs
+
+mul-self : tie.Need-mul-self Inv-loop μ-loop
+mul-self c = search needs
+
+element-write-self : tie.Need-element-write-self Inv-loop μ-loop
+element-write-self c = search needs
+
+add-p : tie.Need-add-p Inv-loop μ-loop
+add-p c = search needs
+
+loop-less : tie.Need-loop-less Inv-loop μ-loop
+loop-less c = search needs
+
+loop-again : tie.Need-loop-again Inv-loop μ-loop
+loop-again c =
+    let a = c .before .before .before .before .args .t1 .rows in
+    let b = c .before .before .before .before .args .other .rows in
+    let at = c .before .before .before .loop in
+    let la : length a ≡ 24 = search needs in
+    (search needs, compose-turn a b (at .self .rows) (at .p) (c .image .result) (omega arith) (at .inv .1) (c .image .ensures))
+
+returns : tie.Need-returns Inv-loop μ-loop
+returns c =
+    let a = c .before .before .args .t1 .rows in
+    let b = c .before .before .args .other .rows in
+    let at = c .before .loop in
+    let la : length a ≡ 24 = search needs in
+    over-done (composed a b) a (at .self .rows) (at .p) (length-map a (imageOf b)) (omega arith) (at .inv .1)
 
 pub then-spec : {M : Type 1} → statement M
 then-spec =
@@ -22,28 +62,13 @@ then-spec =
     (tie.spec
     Inv-loop
     μ-loop
-    (λ c κs. search needs)
-    (λ c. let la : length (c .before .args .t1 .rows) ≡ 24 = search needs in
-    compose-start (c .before .args .t1 .rows) (c .before .args .other .rows) _ la (c .occupied .ensures))
-    (λ c κs. search needs)
-    (λ c. omega (arith, lowest-row (c .before .before .loop .inv .small) (c .lowest .ensures) (omega arith)))
-    (λ c. omega (arith, lowest-row (c .before .before .loop .inv .small) (c .lowest .ensures) (omega arith)))
-    (λ c κs. search needs)
-    (λ c. omega (arith, lowest-row (c .before .before .before .before .loop .inv .small) (c .before .before .lowest .ensures) (omega arith)))
-    (λ c. omega (arith, lowest-row (c .before .before .before .before .loop .inv .small) (c .before .before .lowest .ensures) (omega arith)))
-    (λ c κs. search needs)
-    (λ c. rest-falls (c .before .before .before .before .before .loop .inv .small) (c .without-lowest .ensures) (omega arith))
-    (λ c. let at = c .before .before .before .before .before .loop in
-    let a = c .before .before .before .before .before .before .before .args .t1 .rows in
-    let b = c .before .before .before .before .before .before .before .args .other .rows in
-    let k = c .before .before .before .lowest in
-    let v = c .before .image in
-    let r = c .without-lowest in
-    mixed-step (composed a b) a (at .self .rows) (at .rest) (v .result) (k .result) (r .result) (omega arith) (k .ensures) (r .ensures) (at .inv)
-    (λ g. v .ensures ∙ ap (imageOf b) g ∙ sym (row-composed a b (k .result))))
-    (λ c. let at = c .before .loop in
-    let a = c .before .before .before .args .t1 .rows in
-    let b = c .before .before .before .args .other .rows in
-    let la : length a ≡ 24 = search needs in
-    let z : at .rest ≡ 0 = omega arith in
-    mixed-done (composed a b) a (at .self .rows) (length-map a (imageOf b) ∙ la) (subst (Mixed (composed a b) a (at .self .rows)) z (at .inv))))
+    loop-holds
+    mul-image
+    element-copy-out-image
+    image-requires
+    mul-self
+    element-write-self
+    add-p
+    loop-less
+    loop-again
+    returns)

@@ -1,0 +1,78 @@
+//! The engine, from its static library. Nothing checks these two declarations against its source
+//! (crates/exports/src/lib.rt), so they stand here alone, behind a type that only a successful `twa_prepare` makes.
+use crate::{Judge, Refusal, Verdict};
+
+const TABLE: usize = 9216;
+const LEAVES: usize = 1536;
+
+extern "C" {
+    fn twa_prepare(
+        file: *const u8,
+        length: usize,
+        table: *mut [u32; TABLE],
+        leaves: *mut [u32; LEAVES],
+        header: *mut [u32; 6],
+    ) -> u32;
+
+    fn twa_judge(
+        states: u8,
+        symbols: u8,
+        rules: u16,
+        initial: u32,
+        accepting: u32,
+        branches: u32,
+        table: *const [u32; TABLE],
+        leaves: *const [u32; LEAVES],
+        file: *const u8,
+        length: usize,
+    ) -> u32;
+}
+
+/// An automaton that the engine has prepared.
+pub struct Engine {
+    /// States, symbols, rules, initial, accepting and branch sets.
+    header: [u32; 6],
+    table: Box<[u32; TABLE]>,
+    leaves: Box<[u32; LEAVES]>,
+}
+
+impl Engine {
+    pub fn prepare(file: &[u8]) -> Result<Engine, Refusal> {
+        let mut engine = Engine { header: [0; 6], table: Box::new([0; TABLE]), leaves: Box::new([0; LEAVES]) };
+        // `file` is `length` bytes long, and the three that are written to are distinct.
+        let answer = unsafe {
+            twa_prepare(file.as_ptr(), file.len(), &mut *engine.table, &mut *engine.leaves, &mut engine.header)
+        };
+        match answer {
+            0 => Ok(engine),
+            number => Err(Refusal(number)),
+        }
+    }
+}
+
+impl Judge for Engine {
+    fn judge(&self, file: &[u8]) -> Verdict {
+        let [states, symbols, rules, initial, accepting, branches] = self.header;
+        // The six numbers and the two tables are what `twa_prepare` left, and nothing has changed them.
+        let answer = unsafe {
+            twa_judge(
+                states as u8,
+                symbols as u8,
+                rules as u16,
+                initial,
+                accepting,
+                branches,
+                &*self.table,
+                &*self.leaves,
+                file.as_ptr(),
+                file.len(),
+            )
+        };
+        match answer {
+            0 => Verdict::Accepted,
+            1 => Verdict::Other,
+            2 => Verdict::Refused,
+            other => panic!("the engine answered {other}"),
+        }
+    }
+}
