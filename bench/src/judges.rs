@@ -10,9 +10,9 @@ pub const NAMES: [&str; 3] = ["Rust tables", "Rust plain", "Rust configurations"
 
 pub const COUNT: usize = NAMES.len();
 
-/// The engine's place among the names, where it is linked, and that of the yardstick.
+/// The engine's place among the names, where it is linked, and those of the two forms of its algorithm in Rust.
 pub const ENGINE: Option<usize> = if cfg!(feature = "engine") { Some(0) } else { None };
-pub const TABLES: usize = COUNT - 3;
+pub const SAME: [usize; 2] = [COUNT - 3, COUNT - 2];
 
 /// One automaton, prepared by each implementation, in the order of their names.
 pub struct Judges(pub [Box<dyn Judge>; COUNT]);

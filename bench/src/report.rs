@@ -1,17 +1,12 @@
 //! The printed table of figures.
 use crate::{
-    judges::{COUNT, ENGINE, NAMES, TABLES},
+    judges::{COUNT, ENGINE, NAMES, SAME},
     measure::{Row, ROUNDS},
 };
 
-/// The engine's time over that of the Rust tables, where the engine is linked.
-fn ratio(micros: [f64; COUNT]) -> Option<f64> {
-    ENGINE.map(|engine| micros[engine] / micros[TABLES])
-}
-
-fn mean(figures: impl ExactSizeIterator<Item = f64>) -> f64 {
-    let count = figures.len() as f64;
-    figures.sum::<f64>() / count
+/// The engine's time over that of another, where the engine is linked.
+fn ratio(micros: [f64; COUNT], other: usize) -> Option<f64> {
+    ENGINE.map(|engine| micros[engine] / micros[other])
 }
 
 pub fn print(rows: &[Row]) {
@@ -20,11 +15,8 @@ pub fn print(rows: &[Row]) {
     for row in rows {
         print_line(row.name, &format!("{}/{}", row.accepted, row.trees), row.micros);
     }
-    print_line("mean", "", std::array::from_fn(|which| mean(rows.iter().map(|row| row.micros[which]))));
-    let ratios: Option<Vec<f64>> = rows.iter().map(|row| ratio(row.micros)).collect();
-    if let Some(ratios) = ratios {
-        println!("geometric mean of the ratios: {:.2}", mean(ratios.iter().map(|ratio| ratio.ln())).exp());
-    }
+    let mean = |which: usize| rows.iter().map(|row| row.micros[which]).sum::<f64>() / rows.len() as f64;
+    print_line("mean", "", std::array::from_fn(mean));
 }
 
 fn print_head() {
@@ -32,7 +24,10 @@ fn print_head() {
     for name in NAMES {
         print!("{name:>21}");
     }
-    println!("{}", if ENGINE.is_some() { "   engine / Rust tables" } else { "" });
+    for other in SAME.iter().filter(|_| ENGINE.is_some()) {
+        print!("{:>23}", format!("engine / {}", NAMES[*other]));
+    }
+    println!();
 }
 
 fn print_line(name: &str, accepted: &str, micros: [f64; COUNT]) {
@@ -40,7 +35,7 @@ fn print_line(name: &str, accepted: &str, micros: [f64; COUNT]) {
     for figure in micros {
         print!("{figure:>21.1}");
     }
-    if let Some(ratio) = ratio(micros) {
+    for ratio in SAME.iter().filter_map(|other| ratio(micros, *other)) {
         print!("{ratio:>23.2}");
     }
     println!();
