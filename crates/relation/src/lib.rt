@@ -5,6 +5,7 @@ pub mod set;
 ghost use mathlib.Core.Path.{_≡_};
 ghost use Prim.Native.Nat.{_-_, _%_, _^_, _<_, _≤_};
 ghost use lib.Bits.{bitOr};
+ghost use lib.ListN.{length};
 ghost use Rattle.relation.specs.Lowest.{lowestOf, restOf};
 ghost use Rattle.relation.specs.Rows.{flagOf, Occupied, Between};
 ghost use Rattle.relation.specs.Rows.{noPairs, added, joined, orIf, imageOf, composed, closed, meeting, sameRows, holding, countOf};
@@ -61,6 +62,20 @@ fn below(states: usize) -> u32
     (1 << states) - 1
 }
 
+// The states that the pairs of these rows lead to from the set `from`.
+fn image_in(rows: &[u32], from: u32) -> u32
+    requires { ⌜ length (now rows) ≡ 24 ⌝ }
+    ensures { λ r. ⌜ r ≡ imageOf (now (rows .entry)) from ⌝ }
+{
+    let mut to: u32 = 0;
+    let mut rest = from % 16777216;
+    while rest != 0 {
+        to |= rows[lowest(rest)];
+        rest = without_lowest(rest);
+    }
+    to
+}
+
 impl Relation {
     // No pair.
     pub fn empty() -> Relation
@@ -100,13 +115,7 @@ impl Relation {
     pub fn image(self, from: u32) -> u32
         ensures { λ r. ⌜ r ≡ imageOf (self .rows) from ⌝ }
     {
-        let mut to: u32 = 0;
-        let mut rest = from % 16777216;
-        while rest != 0 {
-            to |= self.rows[lowest(rest)];
-            rest = without_lowest(rest);
-        }
-        to
+        image_in(&self.rows, from)
     }
 
     // The states from which some pair leads.
@@ -125,7 +134,7 @@ impl Relation {
         ensures { λ r. ⌜ r .rows ≡ composed (self .rows) (other .rows) ⌝ }
     {
         for p in 0..24 {
-            self.rows[p] = other.image(self.rows[p]);
+            self.rows[p] = image_in(&other.rows, self.rows[p]);
         }
         self
     }
