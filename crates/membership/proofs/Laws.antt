@@ -1,7 +1,7 @@
 -- The answer from the loops at the root; what is known of a tree that was read.
 -- Assumes nothing.
 use Prim.Native.Nat.{ℕ, zero, suc, _≤_, _<_}
-use mathlib.Core.Path.{_≡_, sym, _∙_}
+use mathlib.Core.Path.{_≡_}
 use mathlib.Core.Bool.{Bool}
 use mathlib.Core.List.{List, [], _∷_}
 use native.Mathlib.Omega.{arith}
@@ -12,13 +12,6 @@ use Rattle.model.specs.declared.Place.{Place}
 use Rattle.algorithms.specs.Automaton.{Automaton}
 use Rattle.algorithms.specs.Overloops.{loops, accepts?}
 use Rattle.model.specs.declared.Signature.{Signature}
-use Rattle.refusal.specs.declared.Refusal.{Refusal}
-use Rattle.automaton.specs.File.{parsed}
-use Rattle.automaton.specs.declared.Header.{Header}
-use Rattle.automaton.specs.declared.file.Parsed.{Parsed}
-use Rattle.transitions.specs.Transitions.{automatonOf}
-use Rattle.transitions.specs.Compiled.{Compiled, Loaded}
-use Rattle.membership.specs.Prepared.{Prepared, PreparedAfter}
 use Rattle.overloops.proofs.Laws.{accepting-by}
 use Rattle.tree.specs.Preorder.{Writes, Below}
 use Rattle.blocks.specs.Blocks.{content}
@@ -46,15 +39,3 @@ written-below sg s t l w = below-32 (sg .symbols) s l (rw (w .text) (shaped-over
 pub front-is : (sg : Signature) (s : List ℕ) (k : ℕ) (buffer after : List ℕ) (r : ParsedTree) → r ≡ ParsedTree.Nodes k → after ≡ nodesAfter r s buffer
     → TreeRead sg s k → take k after ≡ nodesOf k (content s)
 front-is sg s k buffer after r e f t = rw (f, e) (nodes-front sg s k buffer t)
-
--- what loading and preparing leave, by the answer
-pub loaded-read : (r : Parsed) (h : Header) (s before after : List ℕ) → r ≡ Parsed.Read h → Loaded r s before after → Compiled (automatonOf h (content s)) after
-loaded-read r h s before after e l = rw e at l
-
-pub loaded-refused : (r : Parsed) (x : Refusal) (s before after : List ℕ) → r ≡ Parsed.Refused x → Loaded r s before after → after ≡ before
-loaded-refused r x s before after e l = rw e at l
-
-abbrev pub prepared-read : (r : Parsed) (h : Header) (s t l t′ l′ : List ℕ) → r ≡ Parsed.Read h → r ≡ parsed s → PreparedAfter r s t l t′ l′ → Prepared h t′ l′
-prepared-read r h s t l t′ l′ e f a =
-    let b : PreparedAfter (Parsed.Read h) s t l t′ l′ = rw e at a in
-    record { file = s; read = sym f ∙ e; compiled = b .0; leaves-are = b .1 }

@@ -8,7 +8,7 @@ use model::Symbol;
 use overloops::leaf_loops;
 use overloops::leaf_overloops;
 use overloops::node_loops;
-use overloops::node_overloops;
+use overloops::overloops_in;
 use refusal::Refusal;
 use relation::Relation;
 use tree::file::ParsedTree;
@@ -20,11 +20,10 @@ ghost use Rattle.model.specs.Trees.{Tree, size};
 ghost use Rattle.algorithms.specs.Automaton.{Automaton};
 ghost use Rattle.algorithms.specs.Overloops.{overloops, loops, accepts?};
 ghost use Rattle.blocks.specs.Blocks.{content};
-ghost use Rattle.automaton.specs.File.{parsed};
 ghost use Rattle.tree.specs.Preorder.{Stands};
 ghost use Rattle.overloops.specs.Tables.{Of, Tabled, Leaves};
+ghost use Rattle.overloops.specs.Prepared.{Prepared};
 ghost use Rattle.membership.specs.Judged.{judgedBy, judged};
-ghost use Rattle.membership.specs.Prepared.{Prepared, PreparedAfter};
 ghost use Rattle.membership.specs.Demand2.{Demand2};
 
 // What judging answers: accepted, judged and not accepted, or refused.
@@ -62,28 +61,27 @@ fn part_at(
         };
     }
     let symbol = Symbol(symbols[at]);
-    if is_branch(branches, symbol) {
-        let left = part_at(symbols, branches, states, table, leaves, at + 1, Side::Left);
-        let right = part_at(
-            symbols,
-            branches,
-            states,
-            table,
-            leaves,
-            left.next,
-            Side::Right,
-        );
-        let l = left.overloops;
-        let r = right.overloops;
-        Part {
-            overloops: node_overloops(table, states, symbol, side, l, r),
-            next: right.next,
-        }
-    } else {
-        Part {
+    if !is_branch(branches, symbol) {
+        return Part {
             overloops: leaf_overloops(leaves, symbol, side),
             next: at + 1,
-        }
+        };
+    }
+    let left = part_at(symbols, branches, states, table, leaves, at + 1, Side::Left);
+    let right = part_at(
+        symbols,
+        branches,
+        states,
+        table,
+        leaves,
+        left.next,
+        Side::Right,
+    );
+    let l = left.overloops;
+    let r = right.overloops;
+    Part {
+        overloops: overloops_in(table, states, symbol, side, &l.rows, &r.rows),
+        next: right.next,
     }
 }
 
@@ -157,20 +155,6 @@ pub fn judge_file(header: Header, table: &[u32], leaves: &[u32], file: &[u8]) ->
     }
 }
 
-// Reads an automaton's file and prepares its tables for judging. A refused file leaves both as they were.
-pub fn prepare(file: &[u8], table: &mut [u32; 9216], leaves: &mut [u32; 1536]) -> Parsed
-    ensures { λ r. ⌜ (r ≡ parsed (now (file .entry)))
-        × PreparedAfter r (now (file .entry)) (now (table .entry)) (now (leaves .entry)) (now (table .exit)) (now (leaves .exit)) ⌝ }
-{
-    match transitions::load(file, table) {
-        Parsed::Refused(refusal) => Parsed::Refused(refusal),
-        Parsed::Read(header) => {
-            overloops::fill_leaves(table, header.states as usize, leaves);
-            Parsed::Read(header)
-        }
-    }
-}
-
 // Judges a tree's file by an automaton's file.
 pub fn judge(automaton: &[u8], tree: &[u8]) -> Answer
     ensures equals { λ r. ⌜ r ≡ judged (now (automaton .entry)) (now (tree .entry)) ⌝ }
@@ -178,7 +162,7 @@ pub fn judge(automaton: &[u8], tree: &[u8]) -> Answer
 {
     let mut table = [0u32; 9216];
     let mut leaves = [0u32; 1536];
-    match prepare(automaton, &mut table, &mut leaves) {
+    match overloops::prepare(automaton, &mut table, &mut leaves) {
         Parsed::Refused(refusal) => Answer::Refused(refusal),
         Parsed::Read(header) => judge_file(header, &table, &leaves, tree),
     }

@@ -1,4 +1,4 @@
--- Laws of 24 rows in a table: read, and written; and of a table of leaves that is filled symbol by symbol.
+-- Laws of 24 rows in a table: read, and written; of a table of leaves that is filled symbol by symbol; and of what preparing leaves.
 -- Assumes nothing.
 use Prim.Native.Nat.{ℕ, _+_, _≤_, _<_}
 use mathlib.Core.Path.{_≡_, refl, sym, ap, _∙_}
@@ -16,8 +16,15 @@ use Rattle.relation.specs.Rows.{noPairs, joined, composed, closed, meeting}
 use Rattle.algorithms.specs.Automaton.{Automaton, Proper}
 use Rattle.algorithms.specs.Overloops.{accepting, moves, nodeLoops, upClosure, leafOverloops, nodeOverloops}
 use Rattle.algorithms.specs.OverloopLaws.{row-moves, leaf-as-node, within-leafOverloops}
-use Rattle.transitions.specs.Compiled.{cellOf, Compiled}
+use Rattle.blocks.specs.Blocks.{content}
+use Rattle.refusal.specs.declared.Refusal.{Refusal}
+use Rattle.automaton.specs.File.{parsed}
+use Rattle.automaton.specs.declared.Header.{Header}
+use Rattle.automaton.specs.declared.file.Parsed.{Parsed}
+use Rattle.transitions.specs.Transitions.{automatonOf}
+use Rattle.transitions.specs.Compiled.{cellOf, Compiled, Loaded}
 use Rattle.transitions.proofs.Laws.{place-small, move-small}
+use Rattle.overloops.specs.Prepared.{Prepared, PreparedAfter}
 use Rattle.overloops.specs.Tables.{sideNumber, leafCell, LeavesBelow, Leaves, PutFirst, Put}
 
 -- ---- 24 rows from a place on
@@ -44,12 +51,12 @@ moves-are A t σ τ μ l c =
 -- ---- the operations of a node, one after the other
 
 module _ (A : Automaton) (τ : Place) (σ : ℕ) (L R : List ℕ) where
-  pub loops-formed : (n : ℕ) {stay down-left through-left here down-right through-right all closure : List ℕ} → A .states ≡ n
-      → stay ≡ moves A σ τ Move.Stay → down-left ≡ moves A σ τ (Move.Down Side.Left) → through-left ≡ composed down-left L → here ≡ joined stay through-left
-      → down-right ≡ moves A σ τ (Move.Down Side.Right) → through-right ≡ composed down-right R → all ≡ joined here through-right
+  pub loops-formed : (n : ℕ) {stay down-left here down-right all closure : List ℕ} → A .states ≡ n
+      → stay ≡ moves A σ τ Move.Stay → down-left ≡ moves A σ τ (Move.Down Side.Left) → here ≡ joined stay (composed down-left L)
+      → down-right ≡ moves A σ τ (Move.Down Side.Right) → all ≡ joined here (composed down-right R)
       → closure ≡ closed n all → closure ≡ nodeLoops A τ σ L R
   unfolding nodeLoops
-  loops-formed n e s dl xl h dr xr a c = rw (c, a, h, xl, xr, s, dl, dr, e)
+  loops-formed n e s dl h dr a c = rw (c, a, h, s, dl, dr, e)
 
   pub overloops-formed : {loops ups exits : List ℕ} → loops ≡ nodeLoops A τ σ L R → ups ≡ moves A σ τ Move.Up → exits ≡ composed loops ups
       → exits ≡ nodeOverloops A τ σ L R
@@ -122,3 +129,15 @@ module _ (A : Automaton) (n : ℕ) (t t₁ t₂ : List ℕ) where
       by σ s p l h (no e) =
           let k : leafCell σ s + p < leafCell n Side.Left = omega (arith, side-small s) in
           right .outside (leafCell σ s + p) (inl (omega arith)) ∙ left .outside (leafCell σ s + p) (inl k) ∙ old .rows σ s p (omega arith) h
+
+-- what loading and preparing leave, by the answer
+pub loaded-read : (r : Parsed) (h : Header) (s before after : List ℕ) → r ≡ Parsed.Read h → Loaded r s before after → Compiled (automatonOf h (content s)) after
+loaded-read r h s before after e l = rw e at l
+
+pub loaded-refused : (r : Parsed) (x : Refusal) (s before after : List ℕ) → r ≡ Parsed.Refused x → Loaded r s before after → after ≡ before
+loaded-refused r x s before after e l = rw e at l
+
+abbrev pub prepared-read : (r : Parsed) (h : Header) (s t l t′ l′ : List ℕ) → r ≡ Parsed.Read h → r ≡ parsed s → PreparedAfter r s t l t′ l′ → Prepared h t′ l′
+prepared-read r h s t l t′ l′ e f a =
+    let b : PreparedAfter (Parsed.Read h) s t l t′ l′ = rw e at a in
+    record { file = s; read = sym f ∙ e; compiled = b .0; leaves-are = b .1 }

@@ -1,4 +1,5 @@
 // The overloops of nodes, formed from the compiled transitions. One function forms the loops of a node, and everything else goes through it.
+use automaton::file::Parsed;
 use model::Move;
 use model::Place;
 use model::Side;
@@ -11,10 +12,12 @@ ghost use lib.ListN.{length, take, drop};
 ghost use Rattle.algorithms.specs.Automaton.{Automaton, Proper};
 ghost use Rattle.algorithms.specs.Overloops as spec;
 ghost use Rattle.transitions.specs.Compiled.{Compiled};
+ghost use Rattle.automaton.specs.File.{parsed};
 ghost use Rattle.overloops.specs.Tables.{Tabled, sideNumber, leafCell, Leaves, Put};
+ghost use Rattle.overloops.specs.Prepared.{PreparedAfter};
 
 // The 24 rows that stand in a table from a place on.
-fn rows_at(table: &[u32], at: usize) -> Relation
+pub fn rows_at(table: &[u32], at: usize) -> Relation
     requires { ⌜ at + 24 ≤ length (now table) ⌝ }
     ensures { λ r. ⌜ r .rows ≡ take 24 (drop at (now (table .entry))) ⌝ }
 {
@@ -33,6 +36,60 @@ fn moves(table: &[u32], symbol: Symbol, place: Place, step: Move) -> Relation
     rows_at(table, transitions::cell(symbol, place, step, State(0)))
 }
 
+// The same pairs, as the rows of the table.
+fn moves_in(table: &[u32], symbol: Symbol, place: Place, step: Move) -> &[u32]
+    requires { ⌜ (length (now table) ≡ 9216) × (symbol .0 < 32) ⌝ }
+    ensures { λ r. ⌜ (length (now r) ≡ 24) × ((A : Automaton) → Compiled A (now (table .entry)) → now r ≡ spec.moves A (symbol .0) place step) ⌝ }
+{
+    let at = transitions::cell(symbol, place, step, State(0));
+    let end = at + 24;
+    &table[at..end]
+}
+
+// The loops of a node at a place, from the rows of its parts' overloops.
+fn loops_in(
+    table: &[u32],
+    states: usize,
+    symbol: Symbol,
+    place: Place,
+    left: &[u32; 24],
+    right: &[u32; 24],
+) -> Relation
+    requires { ⌜ (length (now table) ≡ 9216) × (states ≤ 24) × (symbol .0 < 32) ⌝ }
+    ensures { λ r. ⌜ ((A : Automaton) → Tabled A states (now (table .entry))
+        → r .rows ≡ spec.nodeLoops A place (symbol .0) (now (left .entry)) (now (right .entry))) ⌝ }
+{
+    moves(table, symbol, place, Move::Stay)
+        .join_then(moves_in(table, symbol, place, Move::Down(Side::Left)), left)
+        .join_then(
+            moves_in(table, symbol, place, Move::Down(Side::Right)),
+            right,
+        )
+        .close(states)
+}
+
+// The overloops of a node as a part of its parent, from the rows of its own parts'.
+pub fn overloops_in(
+    table: &[u32],
+    states: usize,
+    symbol: Symbol,
+    side: Side,
+    left: &[u32; 24],
+    right: &[u32; 24],
+) -> Relation
+    requires { ⌜ (length (now table) ≡ 9216) × (states ≤ 24) × (symbol .0 < 32) ⌝ }
+    ensures { λ r. ⌜ ((A : Automaton) → Tabled A states (now (table .entry))
+        → r .rows ≡ spec.nodeOverloops A (Place.Child side) (symbol .0) (now (left .entry)) (now (right .entry))) ⌝ }
+{
+    let place = Place::Child(side);
+    loops_in(table, states, symbol, place, left, right).then_few(moves_in(
+        table,
+        symbol,
+        place,
+        Move::Up,
+    ))
+}
+
 // The loops of a node at a place, from the overloops of its parts.
 pub fn node_loops(
     table: &[u32],
@@ -46,10 +103,7 @@ pub fn node_loops(
     ensures { λ r. ⌜ ((A : Automaton) → Tabled A states (now (table .entry))
         → r .rows ≡ spec.nodeLoops A place (symbol .0) (left .rows) (right .rows)) ⌝ }
 {
-    moves(table, symbol, place, Move::Stay)
-        .join(moves(table, symbol, place, Move::Down(Side::Left)).then(left))
-        .join(moves(table, symbol, place, Move::Down(Side::Right)).then(right))
-        .close(states)
+    loops_in(table, states, symbol, place, &left.rows, &right.rows)
 }
 
 // The overloops of a node as a part of its parent, from those of its own parts.
@@ -65,13 +119,7 @@ pub fn node_overloops(
     ensures { λ r. ⌜ ((A : Automaton) → Tabled A states (now (table .entry))
         → r .rows ≡ spec.nodeOverloops A (Place.Child side) (symbol .0) (left .rows) (right .rows)) ⌝ }
 {
-    let place = Place::Child(side);
-    node_loops(table, states, symbol, place, left, right).then_few(moves(
-        table,
-        symbol,
-        place,
-        Move::Up,
-    ))
+    overloops_in(table, states, symbol, side, &left.rows, &right.rows)
 }
 
 // The loops of a leaf at a place: a node whose parts have no overloops.
@@ -114,7 +162,7 @@ pub fn leaf_overloops(leaves: &[u32], symbol: Symbol, side: Side) -> Relation
 }
 
 // Writes 24 rows into a table from a place on.
-fn put_rows(table: &mut [u32], at: usize, rows: Relation)
+pub fn put_rows(table: &mut [u32], at: usize, rows: Relation)
     requires { ⌜ at + 24 ≤ length (now table) ⌝ }
     ensures { λ _. ⌜ Put at (rows .rows) (now (table .entry)) (now (table .exit)) ⌝ }
 {
@@ -142,5 +190,19 @@ pub fn fill_leaves(table: &[u32], states: usize, leaves: &mut [u32])
     for symbol in 0..32u8 {
         put_leaf(table, states, Symbol(symbol), Side::Left, leaves);
         put_leaf(table, states, Symbol(symbol), Side::Right, leaves);
+    }
+}
+
+// Reads an automaton's file and prepares its tables. A refused file leaves both as they were.
+pub fn prepare(file: &[u8], table: &mut [u32; 9216], leaves: &mut [u32; 1536]) -> Parsed
+    ensures { λ r. ⌜ (r ≡ parsed (now (file .entry)))
+        × PreparedAfter r (now (file .entry)) (now (table .entry)) (now (leaves .entry)) (now (table .exit)) (now (leaves .exit)) ⌝ }
+{
+    match transitions::load(file, table) {
+        Parsed::Refused(refusal) => Parsed::Refused(refusal),
+        Parsed::Read(header) => {
+            fill_leaves(table, header.states as usize, leaves);
+            Parsed::Read(header)
+        }
     }
 }

@@ -5,11 +5,11 @@ use Prim.Native.Nat.{ℕ}
 use mathlib.Core.Path.{_≡_, sym, _∙_}
 use mathlib.Core.List.{List}
 use Rattle.membership.specs.Judged.{judged}
-use Rattle.membership.specs.Prepared.{Prepared}
+use Rattle.overloops.specs.Prepared.{Prepared}
 use Rattle.membership.specs.Demand2.{Demand2}
 use Rattle.membership.specs.Proved.{judged-right}
 use Rattle.membership.specs.declared.Answer.{Answer}
-use Rattle.membership.proofs.Laws.{prepared-read}
+use Rattle.overloops.proofs.Laws.{prepared-read}
 use Rattle.membership.proofs.judge.Statement.{statement}
 use Rattle.membership.proofs.judge.Tie as tie
 

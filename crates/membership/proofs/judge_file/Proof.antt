@@ -17,7 +17,7 @@ use Rattle.tree.specs.Nodes.{treeOf}
 use Rattle.tree.specs.Reading.{TreeRead, tree-read}
 use Rattle.tree.specs.declared.file.ParsedTree.{ParsedTree}
 use Rattle.membership.specs.Judged.{signatureOf, judgedBy}
-use Rattle.membership.specs.Prepared.{Prepared}
+use Rattle.overloops.specs.Prepared.{Prepared}
 use Rattle.membership.proofs.Laws.{written-below, front-is}
 use Rattle.membership.proofs.judge_file.Statement.{statement}
 use Rattle.membership.proofs.judge_file.Tie as tie

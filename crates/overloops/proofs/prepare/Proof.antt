@@ -1,4 +1,4 @@
--- `membership::prepare` meets its contract: what loading left is compiled on, or all is as it was.
+-- `overloops::prepare` meets its contract: what loading left is compiled on, or all is as it was.
 -- Assumes nothing.
 use borrow.Author.Needs.{needs}
 use Prim.Native.Nat.{ℕ}
@@ -12,10 +12,10 @@ use Rattle.automaton.proofs.Passed.{file-read}
 use Rattle.transitions.specs.Compiled.{Compiled}
 use Rattle.transitions.specs.Transitions.{automatonOf}
 use Rattle.transitions.proofs.Meaning.{file-proper}
 use Rattle.overloops.specs.Tables.{Tabled}
-use Rattle.membership.proofs.Laws.{loaded-read, loaded-refused}
-use Rattle.membership.proofs.prepare.Statement.{statement}
-use Rattle.membership.proofs.prepare.Tie as tie
+use Rattle.overloops.proofs.Laws.{loaded-read, loaded-refused}
+use Rattle.overloops.proofs.prepare.Statement.{statement}
+use Rattle.overloops.proofs.prepare.Tie as tie
 
 -- the file reads, and the table is its automaton's
 module _ (c : tie.After-known-told2) where
