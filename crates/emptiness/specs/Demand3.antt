@@ -1,22 +1,26 @@
--- Demand 3, of the survey's answer to an automaton's file and a plan buffer, and of the buffer afterwards. Definitions only, of trees, runs
--- and counts; the plan is document 01's survey's. The quotations are of demand 3.
+-- Demand 3, of the survey's answer to an automaton's file and a plan buffer, and of the buffer afterwards; and of the quick check's answer.
+-- Definitions only, of trees, runs and counts; the plan is document 01's survey's. The quotations are of demand 3.
 use mathlib.Core.Path.{_≡_}
 use mathlib.Core.Logic.{_↔_}
 use mathlib.Core.List.{List, _++_}
 use Prim.Native.Nat.{ℕ, _*_, _≤_}
 use lib.ListN.{length, drop}
-use Rattle.model.specs.Counting.{FoundAt, OpenAt, EmptyAt}
+use Rattle.model.specs.Trees.{Tree}
+use Rattle.model.specs.Counting.{Over, FoundAt, OpenAt, EmptyAt}
 use Rattle.model.specs.Saturation.{WitnessRow, Found}
 use Rattle.model.specs.Demand.{WitnessFor}
-use Rattle.algorithms.specs.Automaton.{Automaton, alphabetOf}
+use Rattle.model.specs.Approximation.{Sets, Top, Least}
+use Rattle.algorithms.specs.Automaton.{Automaton, In, Δ, Accepted, alphabetOf}
 use Rattle.algorithms.specs.Saturate.{languageOf, saturationOf}
 use Rattle.blocks.specs.Blocks.{content}
+use Rattle.refusal.specs.declared.Refusal.{Refusal}
 use Rattle.automaton.specs.File.{parsed}
 use Rattle.automaton.specs.declared.Header.{Header}
 use Rattle.automaton.specs.declared.file.Parsed.{Parsed}
 use Rattle.transitions.specs.Transitions.{automatonOf}
 use Rattle.emptiness.specs.Surveyed.{planBytes, Outcome}
 use Rattle.emptiness.specs.declared.Survey.{Survey}
+use Rattle.emptiness.specs.declared.Quick.{Quick}
 
 -- the plan of a Found h with so many rows, and the buffer that has it
 pub record Planned (A : Automaton) (h rows : ℕ) (before after : List ℕ) : Type 0 where
@@ -53,3 +57,24 @@ pub record Surveys (A : Automaton) (before : List ℕ) (o : Outcome) : Type 0 wh
 -- "Take every walker file that reads without refusal and every plan buffer of 195 bytes or more, whatever stands in it."
 abbrev pub Demand3 : (w before : List ℕ) → Outcome → Type 0
 Demand3 w before o = (h : Header) → parsed w ≡ Parsed.Read h → 195 ≤ length before → Surveys (automatonOf h (content w)) before o
+
+-- "the root set has no way up from a start state to acceptance" (document 01)
+abbrev pub NoWayUp : Automaton → Sets → Type 0
+NoWayUp A sets = (p : ℕ) → In (A .initial) p → ¬ Top sets p
+
+-- of an automaton that was read, and what its approximation answers
+pub record Approximates (A : Automaton) (answer : Quick) : Type 0 where
+  -- "The quick check of such a walker file answers by document 01's three sets": there are sets ..
+  pub sets : Sets
+  -- .. which are "the least that hold the crossings of all leaves and, for every branch symbol and place, the pairs formed" (document 01) ..
+  pub least : Least (Δ A) (alphabetOf A) (In (A .final)) sets
+  -- .. and the answer is "Clear if the root set has no way up from a start state to acceptance, else Unsure" (document 01), and no refusal.
+  pub clear : (answer ≡ Quick.Clear) ↔ NoWayUp A sets
+  pub unsure : (answer ≡ Quick.Unsure) ↔ (¬ NoWayUp A sets)
+  pub no-refusal : (r : Refusal) → ¬ (answer ≡ Quick.Refused r)
+  -- "Wherever it says Clear, no tree of any size passes."
+  pub sound : answer ≡ Quick.Clear → (t : Tree) → Over (alphabetOf A) t → ¬ Accepted A t
+
+-- "such a walker file": every one "that reads without refusal"
+abbrev pub Demand3Quick : (w : List ℕ) → Quick → Type 0
+Demand3Quick w answer = (h : Header) → parsed w ≡ Parsed.Read h → Approximates (automatonOf h (content w)) answer

@@ -1,21 +1,28 @@
--- Demand 3 holds of what the survey answers and leaves.
+-- Demand 3 holds of what the survey answers and leaves, and of what the quick check answers.
 use mathlib.Core.Path.{_≡_, refl, sym, ap}
+use mathlib.Core.Logic.{_↔_}
+use mathlib.Core.Bool.{Bool, true, false}
 use mathlib.Core.List.{List, _++_}
 use Prim.Native.Nat.{ℕ, _*_}
 use borrow.Author.Tests.{le-ltb}
+use lib.Dec.{T}
 use lib.ListN.{length, drop}
 use Rattle.model.specs.Saturation.{WitnessRow, Verdict, Found, Open, Empty, Unended}
 use Rattle.model.specs.Demand.{Told, Correct}
-use Rattle.algorithms.specs.Automaton.{Automaton, alphabetOf}
+use Rattle.algorithms.specs.Automaton.{Automaton, Proper, alphabetOf}
 use Rattle.algorithms.specs.Saturate.{languageOf, saturationOf}
+use Rattle.algorithms.specs.Approximate.{clear?}
 use Rattle.algorithms.specs.Theorems.{demand-3}
 use Rattle.blocks.specs.Blocks.{content}
 use Rattle.refusal.proofs.Passed.{clash}
 use Rattle.transitions.specs.Transitions.{automatonOf}
 use Rattle.transitions.proofs.Meaning.{file-proper}
 use Rattle.emptiness.specs.Surveyed.{planBytes, told, written, bufferCheck, outcome, surveyed}
-use Rattle.emptiness.specs.Demand3.{Planned, AtMost64, Surveys, Demand3}
+use Rattle.emptiness.specs.Checked.{clearOr, checked}
+use Rattle.emptiness.specs.Demand3.{Planned, AtMost64, Surveys, Demand3, Approximates, Demand3Quick}
 use Rattle.emptiness.specs.declared.Survey.{Survey}
+use Rattle.emptiness.specs.declared.Quick.{Quick}
+use Rattle.refusal.specs.declared.Refusal.{Refusal}
 
 -- ---- a verdict and how it is told
 
@@ -90,3 +97,37 @@ unfolding surveyed bufferCheck
 surveyed-right w before h read long =
     rw (read, le-ltb (length before) 195 long)
     (surveys (automatonOf h (content w)) before (demand-3 (automatonOf h (content w)) (file-proper w h read) .saturation))
+
+-- ---- a test that is told as Clear or Unsure, against what it tests
+
+module _ {X : Type 0} where
+  clear-told : (b : Bool) → T b ↔ X → (clearOr b ≡ Quick.Clear) ↔ X
+  clear-told true e = (λ h. e .0 tt, λ x. refl)
+  clear-told false e = (λ h. clash (cc), λ x. absurd (e .1 x))
+
+  unsure-told : (b : Bool) → T b ↔ X → (clearOr b ≡ Quick.Unsure) ↔ (¬ X)
+  unsure-told true e = (λ h. clash (cc), λ n. absurd (n (e .0 tt)))
+  unsure-told false e = (λ h x. e .1 x, λ n. refl)
+
+clear-is : (b : Bool) → clearOr b ≡ Quick.Clear → T b
+clear-is b = clear-told b (λ t. t, λ t. t) .0
+
+not-refused : (b : Bool) (r : Refusal) → ¬ (clearOr b ≡ Quick.Refused r)
+not-refused true r e = clash (cc)
+not-refused false r e = clash (cc)
+
+approximates : (A : Automaton) → Proper A → Approximates A (clearOr (clear? A))
+approximates A P =
+    let d = demand-3 A P in
+    record {
+      sets = d .sets;
+      least = d .least;
+      clear = clear-told (clear? A) (d .answer);
+      unsure = unsure-told (clear? A) (d .answer);
+      no-refusal = not-refused (clear? A);
+      sound = λ e. d .sound (clear-is (clear? A) e);
+    }
+
+pub checked-right : (w : List ℕ) → Demand3Quick w (checked w)
+unfolding checked
+checked-right w h read = rw read (approximates (automatonOf h (content w)) (file-proper w h read))

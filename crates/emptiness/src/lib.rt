@@ -1,6 +1,11 @@
-// Emptiness: what the survey of an automaton's file answers, and the classes of trees that it goes by. specs/ has the definition of the
-// answer and the proof that it meets demand 3.
+// Emptiness: whether an automaton accepts any tree. `file` has the two public functions, document 01's survey and quick check; specs/ has the
+// definitions of their answers, and the proof that these meet demand 3.
+pub mod approximation;
 pub mod class;
+pub mod file;
+pub mod plan;
+pub mod rounds;
+pub mod rows;
 
 use refusal::Refusal;
 
@@ -9,5 +14,12 @@ pub enum Survey {
     Found(usize, usize),
     Open(usize),
     Empty(usize),
+    Refused(Refusal),
+}
+
+// What the quick check answers: no tree is accepted, or that is not known; or a refusal.
+pub enum Quick {
+    Clear,
+    Unsure,
     Refused(Refusal),
 }

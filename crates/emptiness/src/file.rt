@@ -1,0 +1,87 @@
+// What emptiness answers to an automaton's file: the survey, with a plan in a lent buffer, and the quick check.
+use crate::Quick;
+use crate::Survey;
+use crate::approximation::is_clear;
+use crate::plan::write_plan;
+use crate::rounds::Verdict;
+use crate::rounds::saturate;
+use automaton::Header;
+use automaton::file::Parsed;
+use refusal::Check;
+use refusal::Fault;
+use refusal::refused;
+ghost use mathlib.Core.Path.{_≡_};
+ghost use Prim.Native.Nat.{_≤_};
+ghost use lib.ListN.{length};
+ghost use Rattle.algorithms.specs.Automaton.{Automaton};
+ghost use Rattle.algorithms.specs.Saturate.{saturationOf};
+ghost use Rattle.overloops.specs.Tables.{Leaves};
+ghost use Rattle.emptiness.specs.Tries.{Read};
+ghost use Rattle.emptiness.specs.Surveyed.{bufferCheck, outcome, told, written, surveyed};
+ghost use Rattle.emptiness.specs.Checked.{checked};
+ghost use Rattle.emptiness.specs.Demand3.{Demand3, Demand3Quick};
+
+// Line 13.
+fn buffer_check(plan: &[u8]) -> Check
+    ensures { λ r. ⌜ r ≡ bufferCheck (now (plan .entry)) ⌝ }
+{
+    if plan.len() < 195 {
+        return refused(Fault::Buffer, 2, 195);
+    }
+    Check::Passed
+}
+
+// The survey of an automaton that was prepared, with a buffer that is long enough.
+fn survey_read(table: &[u32], leaves: &[u32], header: Header, plan: &mut [u8]) -> Survey
+    requires { ⌜ (length (now table) ≡ 9216) × (length (now leaves) ≡ 1536) × (header .states ≤ 24) × (header .symbols ≤ 32) × (195 ≤ length (now plan)) ⌝ }
+    ensures { λ r. ⌜ ((A : Automaton) → Read A header (now (table .entry)) → Leaves A (now (leaves .entry))
+        → (r ≡ told (saturationOf A)) × (now (plan .exit) ≡ written (saturationOf A) (now (plan .entry)))) ⌝ }
+{
+    let mut rows = [0u32; 3264];
+    match saturate(table, leaves, header, &mut rows) {
+        Verdict::Open(height) => Survey::Open(height),
+        Verdict::Empty(height) => Survey::Empty(height),
+        Verdict::Unended => Survey::Open(255),
+        Verdict::Found(height, n, origin) => {
+            write_plan(&rows, n, origin, plan);
+            Survey::Found(height, n + 1)
+        }
+    }
+}
+
+// The survey of an automaton's file: where a tree is found, a plan that builds one goes to the front of the buffer.
+pub fn survey(file: &[u8], plan: &mut [u8]) -> Survey
+    ensures equals { λ r. ⌜ outcome r (now (plan .exit)) ≡ surveyed (now (file .entry)) (now (plan .entry)) ⌝ }
+    ensures right { λ r. ⌜ Demand3 (now (file .entry)) (now (plan .entry)) (outcome r (now (plan .exit))) ⌝ }
+{
+    let mut table = [0u32; 9216];
+    let mut leaves = [0u32; 1536];
+    match overloops::prepare(file, &mut table, &mut leaves) {
+        Parsed::Refused(refusal) => Survey::Refused(refusal),
+        Parsed::Read(header) => {
+            if let Check::Refused(refusal) = buffer_check(plan) {
+                return Survey::Refused(refusal);
+            }
+            survey_read(&table, &leaves, header, plan)
+        }
+    }
+}
+
+// The quick check of an automaton's file.
+pub fn quick(file: &[u8]) -> Quick
+    ensures equals { λ r. ⌜ r ≡ checked (now (file .entry)) ⌝ }
+    ensures right { λ r. ⌜ Demand3Quick (now (file .entry)) r ⌝ }
+{
+    let mut table = [0u32; 9216];
+    let mut leaves = [0u32; 1536];
+    match overloops::prepare(file, &mut table, &mut leaves) {
+        Parsed::Refused(refusal) => Quick::Refused(refusal),
+        Parsed::Read(header) => {
+            if is_clear(&table, &leaves, header) {
+                Quick::Clear
+            } else {
+                Quick::Unsure
+            }
+        }
+    }
+}
