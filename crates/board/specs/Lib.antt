@@ -1,4 +1,6 @@
--- The lettered cases of document 01: a table, and one proof over its rows.
+-- The lettered cases of document 01: two tables, and one proof over the rows of each.
 pub mod Files
 pub mod Rows
 pub mod Right
+pub mod Surveys
+pub mod SurveysRight
