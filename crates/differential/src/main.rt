@@ -1,24 +1,19 @@
 // Compares the engine with a brute-force run on pairs of an automaton and a tree by chance. A pair is made from its number alone, as data;
 // the brute force works on the data, the engine on the two files that are written from it. Some files are damaged, and have to be refused.
 // It writes the verdicts that the brute force gives for each family of automata and each shape of trees, and how often the engine differs.
-mod access;
-mod counting;
-mod families;
-mod files;
-mod guided;
-mod random;
-mod rules;
-mod sided;
-mod trees;
-mod walk;
-
-use access::number;
-use access::set_number;
+use generated::access::number;
+use generated::families;
+use generated::files;
+use generated::random::chance;
+use generated::random::draw;
+use generated::random::seed;
+use generated::report::count;
+use generated::report::labelled;
+use generated::report::text;
+use generated::rules::Automaton;
+use generated::trees;
+use generated::walk;
 use membership::Answer;
-use random::chance;
-use random::draw;
-use random::seed;
-use rules::Automaton;
 
 // The pairs of each family.
 const PAIRS: usize = 3000;
@@ -141,23 +136,6 @@ fn one_pair(pair: usize, family: usize) -> Outcome {
     compare(&mut random, a, &rules, &nodes, size, shape.kind)
 }
 
-// Counts: three verdicts for each family (from 0), for each shape (from 32), in all (60); differences (63).
-fn count(counts: &mut [usize], at: usize) {
-    let n = number(counts, at);
-    if n < 1000000 {
-        set_number(counts, at, n + 1);
-    }
-}
-
-fn text(label: &[u8]) {
-    io::write_all(1, label);
-}
-
-fn labelled(label: &[u8], n: usize) {
-    io::write_all(1, label);
-    io::print_decimal(1, n as u64);
-}
-
 // Writes a verdict's kind, number, file and place.
 fn print_verdict(label: &[u8], verdict: Verdict) {
     labelled(label, verdict.kind);
@@ -176,7 +154,8 @@ fn print_difference(counts: &[usize], pair: usize, outcome: Outcome) {
     }
 }
 
-// Has one pair compared and counts it.
+// Has one pair compared and counts it. Counts: three verdicts for each family (from 0), for each shape (from 32), in all (60); differences
+// (63).
 fn tally(counts: &mut [usize], pair: usize, family: usize) {
     let outcome = one_pair(pair, family);
     let expected = outcome.expected;
