@@ -96,7 +96,7 @@ fn used_states(states: usize, random: &mut Random) -> Vec<usize> {
 }
 
 /// An automaton with some rules, of which a few automata have one that is wrong.
-fn small_automaton(random: &mut Random) -> Automaton {
+pub fn small_automaton(random: &mut Random) -> Automaton {
     let states = random.from_to(1, 24);
     let symbols = random.from_to(2, 5);
     let branches = random.from_to(1, symbols - 1);
@@ -120,7 +120,7 @@ fn small_automaton(random: &mut Random) -> Automaton {
 }
 
 /// The file of a small tree; some are damaged, some have a symbol too many or are higher than 64.
-fn small_tree_file(automaton: &Automaton, random: &mut Random) -> Vec<u8> {
+pub fn small_tree_file(automaton: &Automaton, random: &mut Random) -> Vec<u8> {
     let kind = random.below(16);
     let (shape, branches, height) = match kind {
         0 => (Shape::LeftComb, 32 * 60 + random.below(200), 60 + random.below(8)),
@@ -140,7 +140,7 @@ fn small_tree_file(automaton: &Automaton, random: &mut Random) -> Vec<u8> {
 }
 
 /// Changes a byte, or the length, of a file; a byte of the first block is mostly changed with its check.
-fn damage(file: &mut Vec<u8>, random: &mut Random) {
+pub fn damage(file: &mut Vec<u8>, random: &mut Random) {
     match random.below(8) {
         0 => file.truncate(random.below(file.len())),
         1 => file.extend_from_slice(&[0; 512]),

@@ -1,5 +1,5 @@
 //! The file of an automaton (document 01, "The walker file"): reading it with refusals 1 to 9, and writing it.
-use crate::{blocks, Refusal};
+use crate::{blocks, refused, Refusal};
 
 /// Places and moves, by their bytes.
 pub const EVERY_PLACE: u8 = 3;
@@ -55,20 +55,26 @@ impl Rule {
         self.place == EVERY_PLACE || usize::from(self.place) == place
     }
 
-    /// Refusals 8 and 9.
-    pub fn check(self, automaton: &Automaton) -> Result<(), Refusal> {
+    /// Whether two rules meet at one symbol, state and place.
+    fn meets(self, other: Rule) -> bool {
+        let at_one_place = (0..3).any(|place| self.applies_at(place) && other.applies_at(place));
+        self.symbol == other.symbol && self.state == other.state && at_one_place
+    }
+
+    /// Refusals 8 and 9: the number, where there is one.
+    pub fn check(self, automaton: &Automaton) -> Result<(), u32> {
         let known = usize::from(self.symbol) < automaton.symbols
             && usize::from(self.state) < automaton.states
             && usize::from(self.next) < automaton.states
             && self.place <= EVERY_PLACE
             && self.step <= RIGHT;
         if !known {
-            return Err(Refusal(8));
+            return Err(8);
         }
         let down_at_leaf = self.step >= LEFT && !automaton.is_branch(self.symbol);
         let up_from_root = self.step == UP && (self.place == 0 || self.place == EVERY_PLACE);
         if down_at_leaf || up_from_root {
-            return Err(Refusal(9));
+            return Err(9);
         }
         Ok(())
     }
@@ -77,6 +83,12 @@ impl Rule {
 impl Automaton {
     pub fn is_branch(&self, symbol: u8) -> bool {
         self.branches >> symbol & 1 == 1
+    }
+
+    /// Whether no two rules meet.
+    pub fn is_single(&self) -> bool {
+        let meets_later = |(i, rule): (usize, &Rule)| self.rules[i + 1..].iter().any(|later| rule.meets(*later));
+        !self.rules.iter().enumerate().any(meets_later)
     }
 
     /// Reads a file. Refusals 1 to 9.
@@ -92,9 +104,9 @@ impl Automaton {
             rules: Vec::with_capacity(rules),
         };
         automaton.check_sets()?;
-        for bytes in content[20..20 + 5 * rules].chunks_exact(5) {
+        for (place, bytes) in content[20..20 + 5 * rules].chunks_exact(5).enumerate() {
             let rule = Rule::from_bytes(bytes);
-            rule.check(&automaton)?;
+            rule.check(&automaton).or_else(|number| refused(number, place))?;
             automaton.rules.push(rule);
         }
         Ok(automaton)
@@ -102,13 +114,11 @@ impl Automaton {
 
     /// Refusal 7.
     fn check_sets(&self) -> Result<(), Refusal> {
-        let bad = exceeds(self.initial, self.states)
-            || exceeds(self.accepting, self.states)
-            || exceeds(self.branches, self.symbols);
-        if bad {
-            Err(Refusal(7))
-        } else {
-            Ok(())
+        let sets =
+            [(8, self.initial, self.states), (12, self.accepting, self.states), (16, self.branches, self.symbols)];
+        match sets.iter().find(|(_, set, count)| exceeds(*set, *count)) {
+            Some((place, ..)) => refused(7, *place),
+            None => Ok(()),
         }
     }
 
@@ -131,17 +141,15 @@ impl Automaton {
 /// Refusals 3 to 6; gives the number of rules.
 fn check_layout(content: &[u8]) -> Result<usize, Refusal> {
     if content[0] != KIND {
-        return Err(Refusal(3));
+        return refused(3, 0);
     }
     let rules = usize::from(u16::from_le_bytes([content[4], content[5]]));
-    let within = (1..=24).contains(&content[1]) && (1..=32).contains(&content[2]) && rules <= MOST_RULES;
-    if !within {
-        return Err(Refusal(4));
+    let within = [(1, (1..=24).contains(&content[1])), (2, (1..=32).contains(&content[2])), (4, rules <= MOST_RULES)];
+    if let Some((place, _)) = within.iter().find(|(_, within)| !within) {
+        return refused(4, *place);
     }
     let payload = 20 + 5 * rules;
     blocks::check_size(content, payload)?;
-    if content[3] != 0 || content[6] != 0 || content[7] != 0 || !blocks::all_zero(&content[payload..]) {
-        return Err(Refusal(6));
-    }
+    blocks::check_zeros(content, &[3, 6, 7], payload)?;
     Ok(rules)
 }

@@ -1,5 +1,5 @@
 //! Blocks of 512 bytes: 508 bytes of content and a check of four bytes (document 01, "Blocks").
-use crate::Refusal;
+use crate::{refused, Refusal};
 
 const BLOCK: usize = 512;
 pub const CONTENT: usize = 508;
@@ -29,13 +29,13 @@ pub fn write(payload: &[u8]) -> Vec<u8> {
 /// The joined contents of a file of at most `most` bytes. Refusals 1 and 2.
 pub fn join(file: &[u8], most: usize) -> Result<Vec<u8>, Refusal> {
     if file.is_empty() || file.len() % BLOCK != 0 || file.len() > most {
-        return Err(Refusal(1));
+        return refused(1, 0);
     }
     let mut joined = Vec::with_capacity(file.len());
     for (number, block) in file.chunks_exact(BLOCK).enumerate() {
         let (content, sum) = block.split_at(CONTENT);
         if check(number, content) != word(sum) {
-            return Err(Refusal(2));
+            return refused(2, number);
         }
         joined.extend_from_slice(content);
     }
@@ -44,14 +44,24 @@ pub fn join(file: &[u8], most: usize) -> Result<Vec<u8>, Refusal> {
 
 /// Refusal 5: the contents are not those of the fewest blocks that hold a payload of this length.
 pub fn check_size(content: &[u8], payload: usize) -> Result<(), Refusal> {
-    if content.len() == payload.div_ceil(CONTENT) * CONTENT {
+    let needed = payload.div_ceil(CONTENT);
+    if content.len() == needed * CONTENT {
         Ok(())
     } else {
-        Err(Refusal(5))
+        refused(5, needed)
     }
 }
 
+/// Refusal 6: a byte that has to be zero is not, one of these before the payload's end, or one of the filler after it.
+pub fn check_zeros(content: &[u8], zeros: &[usize], payload: usize) -> Result<(), Refusal> {
+    if zeros.iter().all(|&at| content[at] == 0) && all_zero(&content[payload..]) {
+        return Ok(());
+    }
+    let mut offsets = zeros.iter().copied().chain(payload..content.len());
+    refused(6, offsets.find(|&at| content[at] != 0).expect("one of the bytes is not zero"))
+}
+
 /// Whether all bytes are zero.
-pub fn all_zero(bytes: &[u8]) -> bool {
+fn all_zero(bytes: &[u8]) -> bool {
     bytes.iter().fold(0, |seen, byte| seen | byte) == 0
 }

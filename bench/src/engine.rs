@@ -1,6 +1,6 @@
-//! The engine, from its static library. Nothing checks these two declarations against its source
-//! (crates/exports/src/lib.rt), so they stand here alone, behind a type that only a successful `twa_prepare` makes.
-use crate::{Judge, Refusal, Verdict};
+//! The engine: the survey from bindings/rust, and judging from the static library of crates/exports. Nothing checks these two
+//! declarations against their source, so they stand here alone, behind a type that only a successful `twa_prepare` makes.
+use crate::{survey::Survey, Judge, Refusal, Verdict};
 
 const TABLE: usize = 9216;
 const LEAVES: usize = 1536;
@@ -28,6 +28,17 @@ extern "C" {
     ) -> u32;
 }
 
+/// The engine's survey of an automaton's file, or its refusal.
+pub fn survey(file: &[u8]) -> Result<Survey, Refusal> {
+    let mut plan = [0; ::engine::PLAN];
+    match ::engine::survey(file, &mut plan) {
+        Ok(::engine::Survey::Found { height, rows }) => Ok(Survey::Found(height, plan[..3 * rows].to_vec())),
+        Ok(::engine::Survey::Open { height }) => Ok(Survey::Open(height)),
+        Ok(::engine::Survey::Empty { height }) => Ok(Survey::Empty(height)),
+        Err(::engine::Refusal { number, place, .. }) => Err(Refusal { number, place }),
+    }
+}
+
 /// An automaton that the engine has prepared.
 pub struct Engine {
     /// States, symbols, rules, initial, accepting and branch sets.
@@ -37,7 +48,8 @@ pub struct Engine {
 }
 
 impl Engine {
-    pub fn prepare(file: &[u8]) -> Result<Engine, Refusal> {
+    /// Reads an automaton's file; of a refusal `twa_prepare` tells the number.
+    pub fn prepare(file: &[u8]) -> Result<Engine, u32> {
         let mut engine = Engine { header: [0; 6], table: Box::new([0; TABLE]), leaves: Box::new([0; LEAVES]) };
         // `file` is `length` bytes long, and the three that are written to are distinct.
         let answer = unsafe {
@@ -45,7 +57,7 @@ impl Engine {
         };
         match answer {
             0 => Ok(engine),
-            number => Err(Refusal(number)),
+            number => Err(number),
         }
     }
 }

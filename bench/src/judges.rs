@@ -17,17 +17,21 @@ pub const SAME: [usize; 2] = [COUNT - 3, COUNT - 2];
 /// One automaton, prepared by each implementation, in the order of their names.
 pub struct Judges(pub [Box<dyn Judge>; COUNT]);
 
-fn boxed<J: Judge + 'static>(prepared: Result<J, Refusal>) -> Result<Box<dyn Judge>, Refusal> {
+/// A judge, or the number of the refusal.
+type Prepared = Result<Box<dyn Judge>, u32>;
+
+fn boxed<J: Judge + 'static>(prepared: Result<J, u32>) -> Prepared {
     prepared.map(|judge| Box::new(judge) as Box<dyn Judge>)
 }
 
-fn prepare_all(file: &[u8]) -> [Result<Box<dyn Judge>, Refusal>; COUNT] {
+fn prepare_all(file: &[u8]) -> [Prepared; COUNT] {
+    let number = |refusal: Refusal| refusal.number;
     [
         #[cfg(feature = "engine")]
         boxed(Engine::prepare(file)),
-        boxed(Tables::prepare(file)),
-        boxed(Plain::prepare(file)),
-        boxed(Configurations::prepare(file)),
+        boxed(Tables::prepare(file).map_err(number)),
+        boxed(Plain::prepare(file).map_err(number)),
+        boxed(Configurations::prepare(file).map_err(number)),
     ]
 }
 

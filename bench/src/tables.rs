@@ -8,12 +8,12 @@ use crate::{
 };
 
 /// Pairs of states: bit q of row p stands for (p, q).
-type Table = [u32; MOST_STATES];
+pub type Table = [u32; MOST_STATES];
 const NO_PAIRS: Table = [0; MOST_STATES];
 
 const ROOT: usize = 0;
-const LEFT_PART: usize = 1;
-const RIGHT_PART: usize = 2;
+pub const LEFT_PART: usize = 1;
+pub const RIGHT_PART: usize = 2;
 
 /// A row that is not empty, with its state.
 struct Row {
@@ -122,6 +122,16 @@ fn compile(automaton: &Automaton, symbol: usize, place: usize) -> Transitions {
     Transitions { stay, up, leaving, left: rows(&left), right: rows(&right) }
 }
 
+/// The closed table of a node, from the overloops of its parts.
+#[inline(always)]
+fn joined(at: &Transitions, left: &Table, right: &Table) -> Table {
+    let mut table = at.stay;
+    add_part(&mut table, &at.left, left);
+    add_part(&mut table, &at.right, right);
+    close(&mut table);
+    table
+}
+
 /// The overloops of a leaf.
 fn leaf_overloops(at: &Transitions) -> Table {
     let mut table = at.stay;
@@ -171,11 +181,34 @@ impl Tables {
         table
     }
 
+    /// The overloops of a leaf.
+    pub fn leaf(&self, symbol: usize, place: usize) -> Table {
+        self.leaves[symbol][place]
+    }
+
+    /// The overloops of a node, from those of its parts.
+    pub fn node(&self, symbol: usize, place: usize, left: &Table, right: &Table) -> Table {
+        let at = &self.transitions[symbol][place];
+        follow(&joined(at, left, right), at)
+    }
+
+    /// Whether a tree is accepted: a leaf, or a node over parts with these overloops.
+    pub fn accepts_leaf(&self, symbol: usize) -> bool {
+        self.accepting(&joined(&self.transitions[symbol][ROOT], &NO_PAIRS, &NO_PAIRS))
+    }
+
+    pub fn accepts_node(&self, symbol: usize, left: &Table, right: &Table) -> bool {
+        self.accepting(&joined(&self.transitions[symbol][ROOT], left, right))
+    }
+
+    fn accepting(&self, closed: &Table) -> bool {
+        numbers(self.initial).any(|p| closed[p] & self.accepting != 0)
+    }
+
     /// Whether the tree with these nodes is accepted.
     fn accepts(&self, mut nodes: &[u8]) -> bool {
         let at = &self.transitions[usize::from(nodes[0])][ROOT];
-        let table = self.closed(&mut nodes, at);
-        numbers(self.initial).any(|p| table[p] & self.accepting != 0)
+        self.accepting(&self.closed(&mut nodes, at))
     }
 }
 

@@ -1,5 +1,5 @@
 //! The file of a tree (document 01, "The letter file"): reading it against an automaton's symbols, and writing it.
-use crate::{automaton::Automaton, blocks, Refusal};
+use crate::{automaton::Automaton, blocks, refused, Refusal};
 
 pub const MOST_HEIGHT: usize = 64;
 const MOST_BYTES: usize = 4608;
@@ -58,17 +58,15 @@ pub fn write(symbols: &[u8]) -> Vec<u8> {
 /// Refusals 3 to 6; gives the offset after the last node.
 fn check_layout(content: &[u8]) -> Result<usize, Refusal> {
     if content[0] != KIND {
-        return Err(Refusal(3));
+        return refused(3, 0);
     }
     let nodes = usize::from(u16::from_le_bytes([content[2], content[3]]));
     if !(1..=MOST_NODES).contains(&nodes) {
-        return Err(Refusal(4));
+        return refused(4, 2);
     }
     let end = 4 + nodes;
     blocks::check_size(content, end)?;
-    if content[1] != 0 || !blocks::all_zero(&content[end..]) {
-        return Err(Refusal(6));
-    }
+    blocks::check_zeros(content, &[1], end)?;
     Ok(end)
 }
 
@@ -76,10 +74,10 @@ fn check_layout(content: &[u8]) -> Result<usize, Refusal> {
 fn check_symbols(symbols: &[u8], alphabet: Alphabet) -> Result<(), Refusal> {
     let highest = symbols.iter().fold(0, |highest, &symbol| symbol.max(highest));
     if usize::from(highest) < alphabet.symbols {
-        Ok(())
-    } else {
-        Err(Refusal(10))
+        return Ok(());
     }
+    let unknown = |&symbol: &u8| usize::from(symbol) >= alphabet.symbols;
+    refused(10, symbols.iter().position(unknown).expect("the highest symbol is one"))
 }
 
 /// Refusals 11 and 12. The stack has the depths of the parts that are still missing, the next one on top; each node
@@ -88,9 +86,9 @@ fn check_shape(symbols: &[u8], alphabet: Alphabet) -> Result<(), Refusal> {
     let mut depths = [0u16; MOST_NODES + 1];
     let mut missing = 1;
     let mut height = 0;
-    for &symbol in symbols {
+    for (node, &symbol) in symbols.iter().enumerate() {
         if missing == 0 {
-            return Err(Refusal(11));
+            return refused(11, node);
         }
         let depth = depths[missing - 1];
         height = height.max(depth);
@@ -99,10 +97,23 @@ fn check_shape(symbols: &[u8], alphabet: Alphabet) -> Result<(), Refusal> {
         missing = missing + 2 * usize::from(alphabet.is_branch(symbol)) - 1;
     }
     if missing != 0 {
-        return Err(Refusal(11));
+        return refused(11, symbols.len());
     }
     if usize::from(height) > MOST_HEIGHT {
-        return Err(Refusal(12));
+        return refused(12, first_too_low(symbols, alphabet));
     }
     Ok(())
+}
+
+/// The first node that is more than 64 steps below the root, of a tree that has one.
+fn first_too_low(symbols: &[u8], alphabet: Alphabet) -> usize {
+    let mut depths = vec![0];
+    let too_low = |&symbol: &u8| {
+        let depth = depths.pop().expect("the tree closes with its last node");
+        if alphabet.is_branch(symbol) {
+            depths.extend([depth + 1; 2]);
+        }
+        depth > MOST_HEIGHT
+    };
+    symbols.iter().position(too_low).expect("the tree is higher than 64")
 }

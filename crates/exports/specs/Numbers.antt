@@ -1,20 +1,14 @@
--- Answers and headers as numbers, for programs in other languages.
+-- Headers, and what reading an automaton answers, as numbers for programs in other languages.
 use Prim.Native.Nat.{ℕ}
 use mathlib.Core.List.{List, [], _∷_}
 use Rattle.automaton.specs.declared.Header.{Header}
 use Rattle.automaton.specs.declared.file.Parsed.{Parsed}
-use Rattle.membership.specs.declared.Answer.{Answer}
 
 abbrev pub header : (states symbols rules initial accepting branches : ℕ) → Header
 header n m r i f b = record { states = n; symbols = m; rules = r; initial = i; accepting = f; branches = b }
 
 abbrev pub headerAfter : Header → List ℕ
 headerAfter h = h .states ∷ h .symbols ∷ h .rules ∷ h .initial ∷ h .accepting ∷ h .branches ∷ []
-
-abbrev pub answerNumber : Answer → ℕ
-answerNumber Answer.Accepted = 0
-answerNumber Answer.Other = 1
-answerNumber (Answer.Refused r) = 2
 
 -- 0, or the refusal's number
 abbrev pub parsedNumber : Parsed → ℕ

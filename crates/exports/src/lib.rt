@@ -1,4 +1,4 @@
-// What a Rust or C program links: preparing an automaton, and judging trees by it. As C declares them:
+// What the benchmark links beside the engine: preparing an automaton once, and judging many trees by it. As C declares them:
 //
 //     uint32_t twa_prepare(const uint8_t *file, size_t len, uint32_t table[9216], uint32_t leaves[1536], uint32_t header[6]);
 //     uint32_t twa_judge(uint8_t states, uint8_t symbols, uint16_t rules, uint32_t initial, uint32_t accepting, uint32_t branches,
@@ -7,11 +7,12 @@ use automaton::Header;
 use automaton::file::Parsed;
 use membership::Answer;
 ghost use mathlib.Core.Path.{_≡_};
-ghost use Rattle.membership.specs.Prepared.{Prepared, PreparedAfter};
+ghost use Rattle.overloops.specs.Prepared.{Prepared, PreparedAfter};
 ghost use Rattle.membership.specs.Judged.{judgedBy};
 ghost use Rattle.blocks.specs.Blocks.{content};
 ghost use Rattle.automaton.specs.File.{parsed};
-ghost use Rattle.exports.specs.Numbers.{header, answerNumber, parsedNumber, headerAfter, headerLeft};
+ghost use Rattle.engine.specs.Numbers.{answerNumber};
+ghost use Rattle.exports.specs.Numbers.{header, parsedNumber, headerAfter, headerLeft};
 
 // An answer as a number: 0 accepted, 1 other, 2 refused.
 fn answer_number(answer: Answer) -> u32
@@ -51,7 +52,7 @@ pub extern "C" fn twa_prepare(
         × PreparedAfter (parsed (now (file .entry))) (now (file .entry)) (now (table .entry)) (now (leaves .entry)) (now (table .exit)) (now (leaves .exit))
         × (now (header .exit) ≡ headerLeft (parsed (now (file .entry))) (now (header .entry))) ⌝ }
 {
-    match membership::prepare(file, table, leaves) {
+    match overloops::prepare(file, table, leaves) {
         Parsed::Refused(refusal) => refusal.number as u32,
         Parsed::Read(found) => {
             put_header(found, header);

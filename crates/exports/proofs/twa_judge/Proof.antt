@@ -2,7 +2,7 @@
 -- Assumes nothing.
 use borrow.Author.Needs.{needs}
 use mathlib.Core.Path.{ap, _∙_}
-use Rattle.exports.specs.Numbers.{answerNumber}
+use Rattle.engine.specs.Numbers.{answerNumber}
 use Rattle.exports.proofs.twa_judge.Statement.{statement}
 use Rattle.exports.proofs.twa_judge.Tie as tie
 

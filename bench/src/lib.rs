@@ -1,0 +1,69 @@
+//! Judging, the survey, the quick check and single in Rust, written from document 01 alone; and the measuring of judging and the
+//! survey: the engine beside these. One call takes the bytes of a tree's file and gives the verdict, the automaton having been
+//! prepared before; or the bytes of an automaton's file, and gives the survey's verdict and plan.
+pub mod agreement;
+pub mod automaton;
+pub mod blocks;
+pub mod configurations;
+#[cfg(feature = "engine")]
+mod engine;
+pub mod families;
+mod judges;
+mod measure;
+mod plain;
+pub mod quick;
+pub mod random;
+mod report;
+pub mod shapes;
+pub mod survey;
+#[cfg(feature = "engine")]
+mod surveys;
+pub mod tables;
+pub mod tree;
+
+/// Why a file is refused: the number of the line of document 01's table, and the place that the line names.
+#[derive(Clone, Copy, Debug, PartialEq, Eq)]
+pub struct Refusal {
+    pub number: u32,
+    pub place: usize,
+}
+
+/// The refusal by a line of the table, at a place.
+fn refused<T>(number: u32, place: usize) -> Result<T, Refusal> {
+    Err(Refusal { number, place })
+}
+
+#[derive(Clone, Copy, Debug, PartialEq, Eq)]
+pub enum Verdict {
+    Accepted,
+    Other,
+    Refused,
+}
+
+impl Verdict {
+    fn of(accepted: bool) -> Verdict {
+        if accepted {
+            Verdict::Accepted
+        } else {
+            Verdict::Other
+        }
+    }
+}
+
+/// A prepared automaton that judges trees from their files.
+pub trait Judge {
+    fn judge(&self, file: &[u8]) -> Verdict;
+}
+
+/// Compares the implementations, measures them, and prints the figures; the error says where two of them differ.
+pub fn run() -> Result<(), String> {
+    let counts = agreement::compare()?;
+    println!(
+        "all agree on small inputs: {} trees accepted, {} other, {} refused; {} automata refused",
+        counts.accepted, counts.other, counts.refused, counts.automata_refused
+    );
+    report::print(&measure::measure()?);
+    #[cfg(feature = "engine")]
+    surveys::run()?;
+    Ok(())
+}

@@ -1,0 +1,53 @@
+//! The functions of libengine.a. Nothing checks these declarations against their source (crates/engine/src/numbers.rt), so they stand here
+//! alone. None asks more of its caller than what Rust's references promise: a slice is a pointer, never null, and a length, and what is
+//! written to overlaps nothing else.
+use crate::Tally;
+
+/// The three numbers told with an answer.
+pub type Told = [usize; 3];
+
+extern "C" {
+    fn engine_judge(
+        automaton: *const u8,
+        automaton_length: usize,
+        tree: *const u8,
+        tree_length: usize,
+        told: *mut Told,
+    ) -> u32;
+    fn engine_survey(file: *const u8, length: usize, plan: *mut u8, plan_length: usize, told: *mut Told) -> u32;
+    fn engine_quick(file: *const u8, length: usize, told: *mut Told) -> u32;
+    fn engine_single(file: *const u8, length: usize, told: *mut Told) -> u32;
+    fn engine_count(tally: *mut [u32; 3], outcome: u32, told: *mut Told) -> u32;
+    fn engine_percent(accepted: u32, other: u32) -> u32;
+}
+
+/// The number answered, and what was told with it.
+fn telling(call: impl FnOnce(*mut Told) -> u32) -> (u32, Told) {
+    let mut told = [0; 3];
+    let number = call(&mut told);
+    (number, told)
+}
+
+pub fn judge(automaton: &[u8], tree: &[u8]) -> (u32, Told) {
+    telling(|told| unsafe { engine_judge(automaton.as_ptr(), automaton.len(), tree.as_ptr(), tree.len(), told) })
+}
+
+pub fn survey(file: &[u8], plan: &mut [u8]) -> (u32, Told) {
+    telling(|told| unsafe { engine_survey(file.as_ptr(), file.len(), plan.as_mut_ptr(), plan.len(), told) })
+}
+
+pub fn quick(file: &[u8]) -> (u32, Told) {
+    telling(|told| unsafe { engine_quick(file.as_ptr(), file.len(), told) })
+}
+
+pub fn single(file: &[u8]) -> (u32, Told) {
+    telling(|told| unsafe { engine_single(file.as_ptr(), file.len(), told) })
+}
+
+pub fn count(tally: &mut [u32; 3], outcome: u32) -> (u32, Told) {
+    telling(|told| unsafe { engine_count(tally, outcome, told) })
+}
+
+pub fn percent(tally: Tally) -> u32 {
+    unsafe { engine_percent(tally.accepted, tally.other) }
+}

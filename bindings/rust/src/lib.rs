@@ -1,0 +1,139 @@
+//! The engine for tree-walking automata, from its static library: judging, the survey, the quick check, single, and the tally. Files are
+//! given as their bytes; every input is answered, a bad file by its refusal.
+mod declared;
+
+use declared::Told;
+
+/// The most bytes that a plan takes, and the fewest that the survey accepts as a buffer.
+pub const PLAN: usize = 195;
+
+/// Which file a refusal is about.
+#[derive(Clone, Copy, Debug, PartialEq, Eq)]
+pub enum File {
+    Automaton,
+    Tree,
+    Neither,
+}
+
+/// Why an input was refused: the number of a line of document 01's table, the file, and the place that the line names.
+#[derive(Clone, Copy, Debug, PartialEq, Eq)]
+pub struct Refusal {
+    pub number: u32,
+    pub file: File,
+    pub place: usize,
+}
+
+/// What judging says of a tree.
+#[derive(Clone, Copy, Debug, PartialEq, Eq)]
+pub enum Verdict {
+    Accepted,
+    Other,
+}
+
+/// What the survey says of an automaton: a tree of this height is accepted, and the plan has so many rows of three bytes; too many classes
+/// of trees at this height; or no tree of any size is accepted.
+#[derive(Clone, Copy, Debug, PartialEq, Eq)]
+pub enum Survey {
+    Found { height: usize, rows: usize },
+    Open { height: usize },
+    Empty { height: usize },
+}
+
+/// What the quick check says of an automaton: no tree is accepted, or that is not known.
+#[derive(Clone, Copy, Debug, PartialEq, Eq)]
+pub enum Quick {
+    Clear,
+    Unsure,
+}
+
+/// What became of a tree, to be counted.
+#[derive(Clone, Copy, Debug, PartialEq, Eq)]
+pub enum Outcome {
+    Accepted,
+    Other,
+    Refused,
+}
+
+/// How many trees were accepted, judged and not accepted, and refused.
+#[derive(Clone, Copy, Debug, Default, PartialEq, Eq)]
+pub struct Tally {
+    pub accepted: u32,
+    pub other: u32,
+    pub refused: u32,
+}
+
+impl Refusal {
+    fn of([number, file, place]: Told) -> Refusal {
+        let file = match file {
+            0 => File::Automaton,
+            1 => File::Tree,
+            _ => File::Neither,
+        };
+        Refusal { number: number as u32, file, place }
+    }
+}
+
+impl From<Result<Verdict, Refusal>> for Outcome {
+    fn from(answer: Result<Verdict, Refusal>) -> Outcome {
+        match answer {
+            Ok(Verdict::Accepted) => Outcome::Accepted,
+            Ok(Verdict::Other) => Outcome::Other,
+            Err(_) => Outcome::Refused,
+        }
+    }
+}
+
+/// Whether an automaton's file accepts a tree's file.
+pub fn judge(automaton: &[u8], tree: &[u8]) -> Result<Verdict, Refusal> {
+    match declared::judge(automaton, tree) {
+        (0, _) => Ok(Verdict::Accepted),
+        (1, _) => Ok(Verdict::Other),
+        (_, told) => Err(Refusal::of(told)),
+    }
+}
+
+/// Looks for a tree that an automaton's file accepts. Where one is found, the plan's rows go to the front of the buffer: symbol, left row,
+/// right row, and 255 255 for a leaf.
+pub fn survey(file: &[u8], plan: &mut [u8]) -> Result<Survey, Refusal> {
+    match declared::survey(file, plan) {
+        (0, [height, rows, _]) => Ok(Survey::Found { height, rows }),
+        (1, [height, ..]) => Ok(Survey::Open { height }),
+        (2, [height, ..]) => Ok(Survey::Empty { height }),
+        (_, told) => Err(Refusal::of(told)),
+    }
+}
+
+/// The quick check of an automaton's file.
+pub fn quick(file: &[u8]) -> Result<Quick, Refusal> {
+    match declared::quick(file) {
+        (0, _) => Ok(Quick::Clear),
+        (1, _) => Ok(Quick::Unsure),
+        (_, told) => Err(Refusal::of(told)),
+    }
+}
+
+/// Whether no two rules of an automaton's file meet.
+pub fn single(file: &[u8]) -> Result<bool, Refusal> {
+    match declared::single(file) {
+        (0, _) => Ok(true),
+        (1, _) => Ok(false),
+        (_, told) => Err(Refusal::of(told)),
+    }
+}
+
+/// Counts one outcome more; a tally that is full stays as it was, and refusal 14 is the answer.
+pub fn count(tally: &mut Tally, outcome: Outcome) -> Result<(), Refusal> {
+    let mut numbers = [tally.accepted, tally.other, tally.refused];
+    let answer = declared::count(&mut numbers, outcome as u32);
+    let [accepted, other, refused] = numbers;
+    *tally = Tally { accepted, other, refused };
+    match answer {
+        (0, _) => Ok(()),
+        (_, told) => Err(Refusal::of(told)),
+    }
+}
+
+/// The percent of accepted trees among those judged, to the nearest, half upward; 0 where none was judged.
+pub fn percent(tally: Tally) -> u32 {
+    declared::percent(tally)
+}

@@ -1,0 +1,17 @@
+-- `engine::numbers::engine_single` meets its contract: it is `single`, with the answer as numbers.
+-- Assumes nothing.
+use borrow.Author.Needs.{needs}
+use mathlib.Core.Path.{ap, _∙_}
+use Rattle.engine.specs.Numbers.{singleNumber, singleTold}
+use Rattle.engine.proofs.numbers.engine_single.Statement.{statement}
+use Rattle.engine.proofs.numbers.engine_single.Tie as tie
+
+pub engine-single-spec : {M : Type 1} → statement M
+engine-single-spec = tie.close (tie.spec
+    (λ c κs. search needs)
+    (λ c κs. search needs)
+    (λ c.
+    let e = c .before .before .single .ensures in (
+      c .put-single .ensures .0 ∙ ap singleNumber e,
+      c .put-single .ensures .1 ∙ ap singleTold e,
+    )))

@@ -1,0 +1,20 @@
+-- `engine::numbers::engine_survey` meets its contract: it is `survey`, with the answer as numbers.
+-- Assumes nothing.
+use borrow.Author.Needs.{needs}
+use mathlib.Core.Path.{ap, _∙_}
+use Rattle.emptiness.specs.Surveyed.{Outcome}
+use Rattle.engine.specs.Numbers.{surveyNumber, surveyTold}
+use Rattle.engine.proofs.numbers.engine_survey.Statement.{statement}
+use Rattle.engine.proofs.numbers.engine_survey.Tie as tie
+
+pub engine-survey-spec : {M : Type 1} → statement M
+engine-survey-spec = tie.close (tie.spec
+    (λ c κs. search needs)
+    (λ c κs. search needs)
+    (λ c. search needs)
+    (λ c.
+    let e = c .before .before .before .before .survey .ensures .0 in (
+      c .put-survey .ensures .0 ∙ ap (λ (o : Outcome). surveyNumber (o .answer)) e,
+      c .put-survey .ensures .1 ∙ ap (λ (o : Outcome). surveyTold (o .answer)) e,
+      ap (λ (o : Outcome). o .buffer) e,
+    )))

@@ -1,0 +1,2 @@
+-- Definitions: the engine's answers as numbers.
+pub mod Numbers

@@ -1,0 +1,61 @@
+// The engine's public functions, over the bytes of files; none asks anything of its caller. `numbers` has the same for Rust and C.
+pub mod numbers;
+
+use membership::Answer;
+use tally::Outcome;
+use tally::Tallied;
+use tally::Tally;
+use transitions::single::Singleness;
+ghost use mathlib.Core.Path.{_≡_};
+ghost use Rattle.membership.specs.Judged.{judged};
+ghost use Rattle.membership.specs.Demand2.{Demand2};
+ghost use Rattle.emptiness.specs.Surveyed.{outcome, surveyed};
+ghost use Rattle.emptiness.specs.Checked.{checked};
+ghost use Rattle.emptiness.specs.Demand3.{Demand3, Demand3Quick};
+ghost use Rattle.transitions.specs.Single.{singleOf};
+ghost use Rattle.tally.specs.Tally.{countedUp, percentOf};
+
+// Whether an automaton's file accepts a tree's file.
+pub fn judge(automaton: &[u8], tree: &[u8]) -> Answer
+    ensures equals { λ r. ⌜ r ≡ judged (now (automaton .entry)) (now (tree .entry)) ⌝ }
+    ensures right { λ r. ⌜ Demand2 (now (automaton .entry)) (now (tree .entry)) r ⌝ }
+{
+    membership::judge(automaton, tree)
+}
+
+// Looks for a tree that an automaton's file accepts: where one is found, a plan that builds it goes to the front of the buffer.
+pub fn survey(file: &[u8], plan: &mut [u8]) -> emptiness::Survey
+    ensures equals { λ r. ⌜ outcome r (now (plan .exit)) ≡ surveyed (now (file .entry)) (now (plan .entry)) ⌝ }
+    ensures right { λ r. ⌜ Demand3 (now (file .entry)) (now (plan .entry)) (outcome r (now (plan .exit))) ⌝ }
+{
+    emptiness::file::survey(file, plan)
+}
+
+// The quick check of an automaton's file.
+pub fn quick(file: &[u8]) -> emptiness::Quick
+    ensures equals { λ r. ⌜ r ≡ checked (now (file .entry)) ⌝ }
+    ensures right { λ r. ⌜ Demand3Quick (now (file .entry)) r ⌝ }
+{
+    emptiness::file::quick(file)
+}
+
+// Whether the automaton of a file is single.
+pub fn single(file: &[u8]) -> Singleness
+    ensures { λ r. ⌜ r ≡ singleOf (now (file .entry)) ⌝ }
+{
+    transitions::single::single_file(file)
+}
+
+// The tally with one outcome more; or, where it is full, as it was, and refusal 14.
+pub fn count(tally: Tally, outcome: Outcome) -> Tallied
+    ensures { λ r. ⌜ r ≡ countedUp tally outcome ⌝ }
+{
+    tally::count_held(tally, outcome)
+}
+
+// The percent of accepted trees among those judged, to the nearest, half upward.
+pub fn percent(tally: Tally) -> u32
+    ensures { λ r. ⌜ r ≡ percentOf tally ⌝ }
+{
+    tally::percent(tally)
+}

@@ -1,0 +1,193 @@
+// The engine's functions for Rust and C, on numbers and bytes; bindings/engine.h has their C declarations. Each answers a number, and leaves
+// three more in `told`: those of the answer, or of a refusal its number, file and place; what is missing is 0.
+use emptiness::Quick;
+use emptiness::Survey;
+use membership::Answer;
+use refusal::Check;
+use refusal::Refusal;
+use tally::Outcome;
+use tally::Tally;
+use transitions::single::Singleness;
+ghost use mathlib.Core.Path.{_≡_};
+ghost use Rattle.membership.specs.Judged.{judged};
+ghost use Rattle.emptiness.specs.Surveyed.{surveyed};
+ghost use Rattle.emptiness.specs.Checked.{checked};
+ghost use Rattle.transitions.specs.Single.{singleOf};
+ghost use Rattle.tally.specs.Tally.{countedUp, percentOf};
+ghost use Rattle.engine.specs.Numbers.{refusalTold, answerNumber, answerTold, surveyNumber, surveyTold, quickNumber, quickTold, singleNumber, singleTold, outcomeOf, tallyOf, tallyNumbers, checkNumber, checkTold, judgedTally};
+
+fn put_refusal(refusal: Refusal, told: &mut [usize; 3])
+    ensures { λ _. ⌜ now (told .exit) ≡ refusalTold refusal ⌝ }
+{
+    *told = [
+        refusal.number as usize,
+        refusal.file as usize,
+        refusal.place,
+    ];
+}
+
+// 0 accepted, 1 other, 2 refused.
+fn put_answer(answer: Answer, told: &mut [usize; 3]) -> u32
+    ensures { λ r. ⌜ (r ≡ answerNumber answer) × (now (told .exit) ≡ answerTold answer) ⌝ }
+{
+    *told = [0, 0, 0];
+    match answer {
+        Answer::Accepted => 0,
+        Answer::Other => 1,
+        Answer::Refused(refusal) => {
+            put_refusal(refusal, told);
+            2
+        }
+    }
+}
+
+// 0 found (height, rows), 1 open (height), 2 empty (height), 3 refused.
+fn put_survey(answer: Survey, told: &mut [usize; 3]) -> u32
+    ensures { λ r. ⌜ (r ≡ surveyNumber answer) × (now (told .exit) ≡ surveyTold answer) ⌝ }
+{
+    match answer {
+        Survey::Found(height, rows) => {
+            *told = [height, rows, 0];
+            0
+        }
+        Survey::Open(height) => {
+            *told = [height, 0, 0];
+            1
+        }
+        Survey::Empty(height) => {
+            *told = [height, 0, 0];
+            2
+        }
+        Survey::Refused(refusal) => {
+            put_refusal(refusal, told);
+            3
+        }
+    }
+}
+
+// 0 clear, 1 unsure, 2 refused.
+fn put_quick(answer: Quick, told: &mut [usize; 3]) -> u32
+    ensures { λ r. ⌜ (r ≡ quickNumber answer) × (now (told .exit) ≡ quickTold answer) ⌝ }
+{
+    *told = [0, 0, 0];
+    match answer {
+        Quick::Clear => 0,
+        Quick::Unsure => 1,
+        Quick::Refused(refusal) => {
+            put_refusal(refusal, told);
+            2
+        }
+    }
+}
+
+// 0 single, 1 not single, 2 refused.
+fn put_single(answer: Singleness, told: &mut [usize; 3]) -> u32
+    ensures { λ r. ⌜ (r ≡ singleNumber answer) × (now (told .exit) ≡ singleTold answer) ⌝ }
+{
+    *told = [0, 0, 0];
+    match answer {
+        Singleness::Single => 0,
+        Singleness::Multiple => 1,
+        Singleness::Refused(refusal) => {
+            put_refusal(refusal, told);
+            2
+        }
+    }
+}
+
+// 0 counted, 1 refused.
+fn put_check(check: Check, told: &mut [usize; 3]) -> u32
+    ensures { λ r. ⌜ (r ≡ checkNumber check) × (now (told .exit) ≡ checkTold check) ⌝ }
+{
+    *told = [0, 0, 0];
+    match check {
+        Check::Passed => 0,
+        Check::Refused(refusal) => {
+            put_refusal(refusal, told);
+            1
+        }
+    }
+}
+
+// 0 accepted, 1 other, any other number refused.
+fn outcome_of(number: u32) -> Outcome
+    ensures { λ r. ⌜ r ≡ outcomeOf number ⌝ }
+{
+    match number {
+        0 => Outcome::Accepted,
+        1 => Outcome::Other,
+        _ => Outcome::Refused,
+    }
+}
+
+fn put_tally(tally: Tally, out: &mut [u32; 3])
+    ensures { λ _. ⌜ now (out .exit) ≡ tallyNumbers tally ⌝ }
+{
+    *out = [tally.accepted, tally.other, tally.refused];
+}
+
+// Whether an automaton's file accepts a tree's file.
+#[no_mangle]
+pub extern "C" fn engine_judge(automaton: &[u8], tree: &[u8], told: &mut [usize; 3]) -> u32
+    ensures { λ r. ⌜ (r ≡ answerNumber (judged (now (automaton .entry)) (now (tree .entry))))
+        × (now (told .exit) ≡ answerTold (judged (now (automaton .entry)) (now (tree .entry)))) ⌝ }
+{
+    put_answer(crate::judge(automaton, tree), told)
+}
+
+// Looks for a tree that an automaton's file accepts; the plan goes to the front of the buffer.
+#[no_mangle]
+pub extern "C" fn engine_survey(file: &[u8], plan: &mut [u8], told: &mut [usize; 3]) -> u32
+    ensures { λ r. ⌜ (r ≡ surveyNumber (surveyed (now (file .entry)) (now (plan .entry)) .answer))
+        × (now (told .exit) ≡ surveyTold (surveyed (now (file .entry)) (now (plan .entry)) .answer))
+        × (now (plan .exit) ≡ surveyed (now (file .entry)) (now (plan .entry)) .buffer) ⌝ }
+{
+    put_survey(crate::survey(file, plan), told)
+}
+
+// The quick check of an automaton's file.
+#[no_mangle]
+pub extern "C" fn engine_quick(file: &[u8], told: &mut [usize; 3]) -> u32
+    ensures { λ r. ⌜ (r ≡ quickNumber (checked (now (file .entry)))) × (now (told .exit) ≡ quickTold (checked (now (file .entry)))) ⌝ }
+{
+    put_quick(crate::quick(file), told)
+}
+
+// Whether the automaton of a file is single.
+#[no_mangle]
+pub extern "C" fn engine_single(file: &[u8], told: &mut [usize; 3]) -> u32
+    ensures { λ r. ⌜ (r ≡ singleNumber (singleOf (now (file .entry)))) × (now (told .exit) ≡ singleTold (singleOf (now (file .entry)))) ⌝ }
+{
+    put_single(crate::single(file), told)
+}
+
+// One outcome more on a tally of three numbers: accepted, other, refused.
+#[no_mangle]
+pub extern "C" fn engine_count(tally: &mut [u32; 3], outcome: u32, told: &mut [usize; 3]) -> u32
+    ensures { λ r. ⌜ (r ≡ checkNumber (countedUp (tallyOf (now (tally .entry))) (outcomeOf outcome) .check))
+        × (now (told .exit) ≡ checkTold (countedUp (tallyOf (now (tally .entry))) (outcomeOf outcome) .check))
+        × (now (tally .exit) ≡ tallyNumbers (countedUp (tallyOf (now (tally .entry))) (outcomeOf outcome) .tally)) ⌝ }
+{
+    let before = Tally {
+        accepted: tally[0],
+        other: tally[1],
+        refused: tally[2],
+    };
+    let counted = crate::count(before, outcome_of(outcome));
+    let after = counted.tally;
+    let check = counted.check;
+    put_tally(after, tally);
+    put_check(check, told)
+}
+
+// The percent of accepted trees among those judged.
+#[no_mangle]
+pub extern "C" fn engine_percent(accepted: u32, other: u32) -> u32
+    ensures { λ r. ⌜ r ≡ percentOf (judgedTally accepted other) ⌝ }
+{
+    crate::percent(Tally {
+        accepted,
+        other,
+        refused: 0,
+    })
+}
