@@ -1,17 +1,21 @@
--- A batch (document 01, "Tally and report"): the length of a tree's file, and what a file does to the tally. The quotations are of that section.
-use mathlib.Core.Bool.{Bool, true, false, not, _&&_}
+-- A batch (document 01, "Tally and report"): trees' files end to end, each counted, until the input or the batch ends. The quotations are of
+-- that section. Interface: `fileBlocks`, `firstLength`, `turnOf`, `nextIn`, `batchOf`, `nothingCounted`.
+use mathlib.Core.Bool.{Bool, true, false, not, cond, _&&_}
 use mathlib.Core.List.{List}
-use Prim.Native.Nat.{ℕ, _+_, _*_}
-use lib.ListN.{length, getD}
-use lib.Dec.{leb}
+use Prim.Native.Nat.{ℕ, zero, suc, _+_, _*_}
+use lib.ListN.{length, getD, take, drop}
+use lib.Dec.{eqb, ltb, leb}
 use Rattle.refusal.specs.Lines.{blocksNeeded}
 use Rattle.refusal.specs.declared.Check.{Check}
+use Rattle.automaton.specs.declared.Header.{Header}
+use Rattle.membership.specs.Judged.{judgedBy}
 use Rattle.membership.specs.declared.Answer.{Answer}
 use Rattle.tally.specs.Tally.{countedUp}
 use Rattle.tally.specs.declared.Tally.{Tally}
-use Rattle.tally.specs.declared.Tallied.{Tallied}
 use Rattle.tally.specs.declared.Outcome.{Outcome}
-use Rattle.batch.specs.declared.Next.{Next}
+use Rattle.batch.specs.declared.Turn.{Turn}
+
+-- ---- the length of a file
 
 -- "A letter's first block gives its length": the fewest blocks that hold the header's four bytes and the nodes. Where there are too many
 -- nodes, or no header, the first block is all that is looked at.
@@ -23,6 +27,12 @@ unfoldable pub fileBlocks : List ℕ → ℕ
 fileBlocks first =
     let nodes = getD first 2 0 + 256 * getD first 3 0 in
     blocksOf (leb 4 (length first) && leb nodes 4096) nodes
+
+-- of the file that stands first in s, in bytes
+abbrev pub firstLength : List ℕ → ℕ
+firstLength s = 512 * fileBlocks (take 512 s)
+
+-- ---- what the first file comes to
 
 -- "accepted, other (judged, not accepted), refused"
 abbrev pub outcomeOf : Answer → Outcome
@@ -36,18 +46,61 @@ endsBatch Answer.Accepted = false
 endsBatch Answer.Other = false
 endsBatch (Answer.Refused r) = leb (r .number) 4
 
+-- a file that was judged: its outcome, and whether the batch goes on after it
+abbrev pub judgedTurn : Answer → Turn
+judgedTurn a = Turn.File (outcomeOf a) (not (endsBatch a))
+
+-- "input that stops inside a letter, counts one refused and ends the batch"
+abbrev pub cutOff : Turn
+cutOff = Turn.File Outcome.Refused false
+
+-- no input is left; or it stops inside a file; or a whole file is there
+abbrev pub turnBy : (none stops : Bool) → Answer → Turn
+turnBy true stops a = Turn.End
+turnBy false true a = cutOff
+turnBy false false a = judgedTurn a
+
+-- what the first file of s comes to, by the automaton of a header and the joined contents p
+unfoldable pub turnOf : Header → (p : List ℕ) → (s : List ℕ) → Turn
+turnOf h p s = turnBy (eqb (length s) 0) (ltb (length s) (firstLength s)) (judgedBy h p (take (firstLength s) s))
+
+-- ---- the tally after it
+
+-- the tally, and whether the batch goes on
+pub record Next : Type 0 where
+  pub tally : Tally
+  pub more : Bool
+
 -- "Refusal 14 ends it uncounted."
 abbrev pub passes : Check → Bool
 passes Check.Passed = true
 passes (Check.Refused r) = false
 
-abbrev pub nextOf : Tallied → (last : Bool) → Next
-nextOf t last = record { tally = t .tally; more = passes (t .check) && not last }
+abbrev pub taken : Tally → Turn → Next
+taken t Turn.End = record { tally = t; more = false }
+taken t (Turn.File o more) = record { tally = countedUp t o .tally; more = passes (countedUp t o .check) && more }
 
--- the tally after an outcome, and whether the batch goes on
-unfoldable pub counted : Tally → Outcome → (last : Bool) → Next
-counted t o last = nextOf (countedUp t o) last
+unfoldable pub nextIn : Header → (p : List ℕ) → Tally → (s : List ℕ) → Next
+nextIn h p t s = taken t (turnOf h p s)
 
--- "input that stops inside a letter, counts one refused and ends the batch"
-abbrev pub cutOff : Tally → Next
-cutOff t = counted t Outcome.Refused true
+-- ---- the whole batch
+
+-- what follows the first file
+abbrev pub restOf : List ℕ → List ℕ
+restOf s = drop (firstLength s) s
+
+-- where the batch goes on, what it comes to later
+abbrev pub goingOn : Next → (later : Tally) → Tally
+goingOn n later = cond (n .more) later (n .tally)
+
+-- the tally of at most so many files
+unfoldable pub batchWithin : (files : ℕ) → Header → (p : List ℕ) → Tally → (s : List ℕ) → Tally
+batchWithin zero h p t s = t
+batchWithin (suc n) h p t s = goingOn (nextIn h p t s) (batchWithin n h p (nextIn h p t s .tally) (restOf s))
+
+-- "letters end to end": the tally of all, no file being shorter than a byte
+unfoldable pub batchOf : Header → (p : List ℕ) → Tally → (s : List ℕ) → Tally
+batchOf h p t s = batchWithin (suc (length s)) h p t s
+
+abbrev pub nothingCounted : Tally
+nothingCounted = record { accepted = 0; other = 0; refused = 0 }

@@ -1,4 +1,4 @@
-// A batch: the files of trees, one after the other. How many blocks a file has, by its first block; and what one file does to the tally.
+// A batch: the files of trees, end to end, and their tally.
 use automaton::Header;
 use membership::Answer;
 use membership::judge_file;
@@ -7,16 +7,18 @@ use tally::Outcome;
 use tally::Tally;
 use tally::count_held;
 ghost use mathlib.Core.Path.{_≡_};
-ghost use Prim.Native.Nat.{_≤_};
+ghost use mathlib.Core.Bool.{cond, _&&_};
+ghost use Prim.Native.Nat.{_<_, _≤_};
+ghost use lib.ListN.{length, take, drop};
 ghost use Rattle.blocks.specs.Blocks.{content};
-ghost use Rattle.membership.specs.Judged.{judgedBy};
 ghost use Rattle.overloops.specs.Prepared.{Prepared};
-ghost use Rattle.batch.specs.Batch.{fileBlocks, outcomeOf, endsBatch, counted, cutOff};
+ghost use Rattle.batch.specs.Batch.{fileBlocks, firstLength, outcomeOf, endsBatch, judgedTurn, passes, turnOf, restOf, batchOf};
+ghost use Rattle.batch.specs.declared.Turn.{Turn};
 
-// The tally after a file, and whether the batch goes on.
-pub struct Next {
-    pub tally: Tally,
-    pub more: bool,
+// What a batch has next: nothing, as there is no input left; or a file, by its outcome and whether the batch goes on after it.
+pub enum Turn {
+    End,
+    File(Outcome, bool),
 }
 
 fn wide(b: u8) -> usize
@@ -26,7 +28,7 @@ fn wide(b: u8) -> usize
 }
 
 // The blocks of a file by its first block: as many as its nodes need, or one where their number is outside its limits.
-pub fn file_blocks(first: &[u8]) -> usize
+fn file_blocks(first: &[u8]) -> usize
     ensures { λ r. ⌜ (r ≡ fileBlocks (now (first .entry))) × (1 ≤ r) × (r ≤ 9) ⌝ }
 {
     if first.len() < 4 {
@@ -37,6 +39,44 @@ pub fn file_blocks(first: &[u8]) -> usize
         return 1;
     }
     (nodes + 511) / 508
+}
+
+// The first n bytes, or all where there are fewer.
+fn front(bytes: &[u8], n: usize) -> &[u8]
+    ensures { λ r. ⌜ now r ≡ take n (now (bytes .entry)) ⌝ }
+{
+    if n <= bytes.len() { &bytes[..n] } else { bytes }
+}
+
+// The bytes from a place on; none where the place is past the end.
+fn back(bytes: &[u8], at: usize) -> &[u8]
+    ensures { λ r. ⌜ now r ≡ drop at (now (bytes .entry)) ⌝ }
+{
+    if at <= bytes.len() {
+        &bytes[at..]
+    } else {
+        &bytes[..0]
+    }
+}
+
+// The length of the first file, as its first block tells it.
+pub fn first_length(bytes: &[u8]) -> usize
+    ensures { λ r. ⌜ (r ≡ firstLength (now (bytes .entry))) × (512 ≤ r) × (r ≤ 4608) ⌝ }
+{
+    512 * file_blocks(front(bytes, 512))
+}
+
+// Where the file that begins at a place ends, within the bytes.
+fn place_after(bytes: &[u8], at: usize) -> usize
+    ensures { λ r. ⌜ (drop r (now (bytes .entry)) ≡ restOf (drop at (now (bytes .entry)))) × (r ≤ length (now (bytes .entry)))
+        × (at < length (now (bytes .entry)) → at < r) ⌝ }
+{
+    let rest = back(bytes, at);
+    let length = first_length(rest);
+    if rest.len() < length {
+        return bytes.len();
+    }
+    at + length
 }
 
 fn outcome_of(answer: Answer) -> Outcome
@@ -60,33 +100,86 @@ fn ends_batch(answer: Answer) -> bool
     }
 }
 
-// Counts an outcome; where the tally is full, or this was the last, the batch ends.
-fn count_next(tally: Tally, outcome: Outcome, last: bool) -> Next
-    ensures { λ r. ⌜ r ≡ counted tally outcome last ⌝ }
+// What a file that was judged comes to.
+fn judged_turn(answer: Answer) -> Turn
+    ensures { λ r. ⌜ r ≡ judgedTurn answer ⌝ }
 {
-    let counted = count_held(tally, outcome);
-    let tally = counted.tally;
-    let check = counted.check;
+    let last = ends_batch(answer);
+    Turn::File(outcome_of(answer), !last)
+}
+
+// What the first file comes to, by an automaton that was prepared.
+pub fn turn_in(header: Header, table: &[u32], leaves: &[u32], bytes: &[u8]) -> Turn
+    requires { ⌜ Prepared header (now table) (now leaves) ⌝ }
+    ensures { λ r. ⌜ ((p : Prepared header (now (table .entry)) (now (leaves .entry)))
+        → r ≡ turnOf header (content (p .file)) (now (bytes .entry))) ⌝ }
+{
+    if bytes.len() == 0 {
+        return Turn::End;
+    }
+    let end = first_length(bytes);
+    if bytes.len() < end {
+        return Turn::File(Outcome::Refused, false);
+    }
+    judged_turn(judge_file(header, table, leaves, &bytes[..end]))
+}
+
+// Whether the batch goes on: the file was counted, and is not the last.
+pub fn goes_on(check: Check, more: bool) -> bool
+    ensures { λ r. ⌜ r ≡ (passes check && more) ⌝ }
+{
     match check {
-        Check::Refused(_) => Next { tally, more: false },
-        Check::Passed => Next { tally, more: !last },
+        Check::Passed => more,
+        Check::Refused(_) => false,
     }
 }
 
-// Judges the file of a tree by an automaton that was prepared, and counts the answer.
-pub fn judge_next(tally: Tally, header: Header, table: &[u32], leaves: &[u32], file: &[u8]) -> Next
+// What the file at a place comes to, where the batch goes on.
+fn turn_after(
+    check: Check,
+    more: bool,
+    header: Header,
+    table: &[u32],
+    leaves: &[u32],
+    bytes: &[u8],
+    at: usize,
+) -> Turn
     requires { ⌜ Prepared header (now table) (now leaves) ⌝ }
     ensures { λ r. ⌜ ((p : Prepared header (now (table .entry)) (now (leaves .entry)))
-        → r ≡ counted tally (outcomeOf (judgedBy header (content (p .file)) (now (file .entry))))
-        (endsBatch (judgedBy header (content (p .file)) (now (file .entry))))) ⌝ }
+        → r ≡ cond (passes check && more) (turnOf header (content (p .file)) (drop at (now (bytes .entry)))) Turn.End) ⌝ }
 {
-    let answer = judge_file(header, table, leaves, file);
-    count_next(tally, outcome_of(answer), ends_batch(answer))
+    if goes_on(check, more) {
+        turn_in(header, table, leaves, back(bytes, at))
+    } else {
+        Turn::End
+    }
 }
 
-// Counts a file that the input stops inside.
-pub fn cut_off(tally: Tally) -> Next
-    ensures { λ r. ⌜ r ≡ cutOff tally ⌝ }
+// The tally of all files, onto a tally.
+pub fn tally_all(
+    before: Tally,
+    header: Header,
+    table: &[u32],
+    leaves: &[u32],
+    bytes: &[u8],
+) -> Tally
+    requires { ⌜ Prepared header (now table) (now leaves) ⌝ }
+    ensures { λ r. ⌜ ((p : Prepared header (now (table .entry)) (now (leaves .entry)))
+        → r ≡ batchOf header (content (p .file)) before (now (bytes .entry))) ⌝ }
 {
-    count_next(tally, Outcome::Refused, true)
+    let mut tally = before;
+    let mut at: usize = 0;
+    let mut turn = turn_in(header, table, leaves, bytes);
+    loop {
+        match turn {
+            Turn::End => return tally,
+            Turn::File(outcome, more) => {
+                let counted = count_held(tally, outcome);
+                let check = counted.check;
+                tally = counted.tally;
+                at = place_after(bytes, at);
+                turn = turn_after(check, more, header, table, leaves, bytes, at);
+            }
+        }
+    }
 }
