@@ -183,7 +183,7 @@ fn put_leaf(table: &[u32], states: usize, symbol: Symbol, side: Side, leaves: &m
 }
 
 // Fills the table of leaves.
-pub fn fill_leaves(table: &[u32], states: usize, leaves: &mut [u32])
+fn fill_leaves(table: &[u32], states: usize, leaves: &mut [u32])
     requires { ⌜ (length (now table) ≡ 9216) × (states ≤ 24) × (length (now leaves) ≡ 1536) ⌝ }
     ensures { λ _. ⌜ ((A : Automaton) → Tabled A states (now (table .entry)) → Leaves A (now (leaves .exit))) ⌝ }
 {
