@@ -213,7 +213,7 @@ class Doors(unittest.TestCase):
         self.told('a tree of 36,893,488,147,419,103,231 nodes, of height 64', *plan(*doubling(65)))
         for rows, reason in [
                 ([], '1 to 65 rows'), ([0, 255], '1 to 65 rows'), (doubling(66), '1 to 65 rows'), ([3, 255, 255], 'row 0: no symbol 3'), ([0, 255, 255, 2, 0, 1], 'not both earlier'),
-                ([0, 255, 255, 2, 2, 0], 'not both earlier'), ([2, 255, 255], 'row 0: a leaf symbol'), ([0, 0, 0], 'row 0: a leaf symbol'), ([0, 255, 255, 2, 0, 255], 'not both earlier')]:
+                ([0, 255, 255, 2, 1, 0], 'not both earlier'), ([2, 255, 255], 'row 0: a leaf symbol'), ([0, 0, 0], 'row 0: a leaf symbol'), ([0, 255, 255, 2, 0, 255], 'not both earlier')]:
             self.told(reason, *plan(*rows))
 
     def test_lost_output(self):
