@@ -22,9 +22,11 @@ class Report(unittest.TestCase):
             os.chmod(os.path.join(self.root, name), 0o755)
         os.makedirs(os.path.join(self.root, 'project/tools'))
         shutil.copy(os.path.join(HERE, 'report'), os.path.join(self.root, 'project/tools/report'))
-        for name in ('project/samples/one', 'project/samples/two', 'mine/a b', 'mine/-c'):
-            self.write(name + '/walker.blk', f'walker of {os.path.basename(name)}, ')
-            self.write(name + '/letters.blk', f'letters of {os.path.basename(name)}')
+        # The last two are found by CDPATH, and must not be.
+        for name in ('project/samples/one', 'project/samples/two', 'mine/a b', 'mine/-c', 'decoy/a b', 'decoy/tools'):
+            of = 'decoy' if 'decoy' in name else os.path.basename(name)
+            self.write(name + '/walker.blk', f'walker of {of}, ')
+            self.write(name + '/letters.blk', f'letters of {of}')
 
     def write(self, name, content):
         path = os.path.join(self.root, name)
@@ -32,9 +34,9 @@ class Report(unittest.TestCase):
         with open(path, 'w') as file:
             file.write(content)
 
-    def run_report(self, words='', folder='mine', redirection=''):
-        environment = dict(os.environ, PATH=self.root + ':' + os.environ['PATH'], ROOT=self.root, CDPATH='/')
-        run = subprocess.run(f'"{self.root}/project/tools/report" {words} {redirection}', shell=True, capture_output=True, text=True,
+    def run_report(self, words='', folder='mine', redirection='', command=None):
+        environment = dict(os.environ, PATH=self.root + ':' + os.environ['PATH'], ROOT=self.root, CDPATH=self.root + '/decoy')
+        run = subprocess.run(f'"{command or self.root + "/project/tools/report"}" {words} {redirection}', shell=True, capture_output=True, text=True,
                              env=environment, cwd=os.path.join(self.root, folder), timeout=60)
         return run.returncode, run.stdout, run.stderr
 
@@ -48,6 +50,8 @@ class Report(unittest.TestCase):
         expected = 'samples/one/\nwalker of one, letters of one\nsamples/two/\nwalker of two, letters of two\n'
         for folder in ('mine', 'project', 'project/tools'):
             self.assertEqual(self.run_report(folder=folder), (0, expected, ''))
+        for folder, command in [('project', 'tools/report'), ('project/tools', './report'), ('mine', '../project/tools/report')]:
+            self.assertEqual(self.run_report(folder=folder, command=command), (0, expected, ''))
 
     def test_folders_of_the_caller(self):
         self.assertEqual(self.run_report('"a b" ./-c/'), (0, 'a b\nwalker of a b, letters of a b\n./-c/\nwalker of -c, letters of -c\n', ''))
@@ -68,6 +72,8 @@ class Report(unittest.TestCase):
 
     def test_lost_output(self):
         self.failed('standard output is closed', '"a b"', redirection='>&-')
+        self.failed('report: output lost', '"a b"', redirection='> /dev/full')
+        self.write('project/target/bin/report', '#!/bin/sh\n')
         self.failed('output lost', '"a b"', redirection='> /dev/full')
 
     def test_lost_by_the_program(self):
