@@ -1,50 +1,17 @@
-//! The tally and the report on trees' files end to end, beside a batch read from document 01 that is judged by the implementations in Rust.
+//! The tally and the report on trees' files end to end, beside the implementations in Rust.
 use bench::{
     agreement::{small_automaton, small_tree_file},
     automaton::Automaton,
-    blocks,
+    batch,
     configurations::Configurations,
     quick::is_clear,
     random::Random,
     survey::{self, Survey},
-    tree::{self, Alphabet},
-    Judge, Verdict,
+    tree,
 };
 use engine::{count, percent, report, File, Outcome, Refusal, Tally};
 
 const BATCHES: u64 = 600;
-
-/// The next file of a batch: its length by the first block; nothing where the batch stops inside it.
-fn next_file(trees: &[u8]) -> Option<&[u8]> {
-    let first = trees.get(..512)?;
-    let nodes = u16::from_le_bytes([first[2], first[3]]) as usize;
-    let length = 512 * (4 + nodes).div_ceil(blocks::CONTENT);
-    trees.get(..length)
-}
-
-/// The outcome of a file, and whether the batch goes on.
-fn outcome(automaton: &Automaton, judge: &Configurations, file: &[u8]) -> (Outcome, bool) {
-    match tree::read(file, Alphabet::of(automaton)) {
-        Err(refusal) => (Outcome::Refused, refusal.number > 4),
-        Ok(_) if judge.judge(file) == Verdict::Accepted => (Outcome::Accepted, true),
-        Ok(_) => (Outcome::Other, true),
-    }
-}
-
-fn tallied(automaton: &Automaton, judge: &Configurations, mut trees: &[u8]) -> Tally {
-    let mut counts = [0; 3];
-    while !trees.is_empty() {
-        let file = next_file(trees);
-        let (outcome, goes_on) = file.map_or((Outcome::Refused, false), |file| outcome(automaton, judge, file));
-        counts[outcome as usize] += 1;
-        if !goes_on {
-            break;
-        }
-        trees = &trees[file.map_or(0, <[u8]>::len)..];
-    }
-    let [accepted, other, refused] = counts;
-    Tally { accepted, other, refused }
-}
 
 /// Document 01's four lines.
 fn lines(file: &[u8], automaton: &Automaton, tally: Tally) -> String {
@@ -68,7 +35,7 @@ fn lines(file: &[u8], automaton: &Automaton, tally: Tally) -> String {
 }
 
 /// Files of an automaton and of some trees end to end, good and bad.
-fn batch(random: &mut Random) -> (Vec<u8>, Vec<u8>) {
+fn small_batch(random: &mut Random) -> (Vec<u8>, Vec<u8>) {
     let automaton = small_automaton(random);
     let mut trees: Vec<u8> = (0..random.below(30)).flat_map(|_| small_tree_file(&automaton, random)).collect();
     if random.below(8) == 0 {
@@ -81,10 +48,11 @@ fn batch(random: &mut Random) -> (Vec<u8>, Vec<u8>) {
 fn batches() {
     let (mut sum, mut automata_refused) = ([0u32; 3], 0);
     for seed in 1..=BATCHES {
-        let (file, trees) = batch(&mut Random::new(seed));
+        let (file, trees) = small_batch(&mut Random::new(seed));
         let (expected, text) = match (Automaton::read(&file), Configurations::prepare(&file)) {
             (Ok(automaton), Ok(judge)) => {
-                let tally = tallied(&automaton, &judge, &trees);
+                let [accepted, other, refused] = batch::tally(&judge, &trees);
+                let tally = Tally { accepted, other, refused };
                 (Ok(tally), lines(&file, &automaton, tally))
             }
             (Err(bench::Refusal { number, place }), _) => {
