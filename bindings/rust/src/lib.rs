@@ -1,5 +1,6 @@
-//! The engine for tree-walking automata, from its static library: judging, the survey, the quick check, single, and the tally. Files are
-//! given as their bytes; every input is answered, a bad file by its refusal.
+//! The engine for tree-walking automata, from its static library: judging, the survey, the quick check, single, the tally, and the report.
+//! Files are given as their bytes; every input is answered, a bad file by its refusal. Calls share nothing, and may be made by any number
+//! of threads; `bindings/engine.h` says how much stack each takes.
 mod declared;
 
 use declared::Told;
@@ -136,4 +137,22 @@ pub fn count(tally: &mut Tally, outcome: Outcome) -> Result<(), Refusal> {
 /// The percent of accepted trees among those judged, to the nearest, half upward; 0 where none was judged.
 pub fn percent(tally: Tally) -> u32 {
     declared::percent(tally)
+}
+
+/// The tally of trees' files end to end, by an automaton's file. (Document 01's batch: a file's first block gives its length; refusals 1 to
+/// 4, and trees that stop inside a file, count one refused and are the end.)
+pub fn tally(automaton: &[u8], trees: &[u8]) -> Result<Tally, Refusal> {
+    let mut numbers = [0; 3];
+    match declared::tally(automaton, trees, &mut numbers) {
+        (0, _) => {
+            let [accepted, other, refused] = numbers;
+            Ok(Tally { accepted, other, refused })
+        }
+        (_, told) => Err(Refusal::of(told)),
+    }
+}
+
+/// The report's text on an automaton's file and trees' files end to end: document 01's lines, in ASCII.
+pub fn report(automaton: &[u8], trees: &[u8]) -> Vec<u8> {
+    declared::report(automaton, trees)
 }
