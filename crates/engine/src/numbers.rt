@@ -17,6 +17,9 @@ ghost use Rattle.emptiness.specs.Checked.{checked};
 ghost use Rattle.emptiness.specs.Demand3.{Demand3, Demand3Quick};
 ghost use Rattle.transitions.specs.Single.{singleOf};
 ghost use Rattle.tally.specs.Tally.{countedUp, percentOf};
+ghost use Rattle.batch.specs.Batch.{talliedOf};
+ghost use Rattle.text.specs.Appended.{Appended};
+ghost use Rattle.wording.specs.Report.{reportOf};
 ghost use Rattle.engine.specs.Numbers.{refusalTold, answerNumber, answerTold, surveyNumber, surveyTold, quickNumber, quickTold, singleNumber, singleTold, outcomeOf, tallyOf, tallyNumbers, checkNumber, checkTold, judgedTally};
 
 fn put_refusal(refusal: Refusal, told: &mut [usize; 3])
@@ -198,4 +201,36 @@ pub extern "C" fn engine_percent(accepted: u32, other: u32) -> u32
         other,
         refused: 0,
     })
+}
+
+// The tally of trees' files end to end, onto a tally of three numbers.
+#[no_mangle]
+pub extern "C" fn engine_tally(
+    automaton: &[u8],
+    trees: &[u8],
+    tally: &mut [u32; 3],
+    told: &mut [usize; 3],
+) -> u32
+    ensures { λ r. ⌜ (r ≡ checkNumber (talliedOf (now (automaton .entry)) (now (trees .entry)) (tallyOf (now (tally .entry))) .check))
+        × (now (told .exit) ≡ checkTold (talliedOf (now (automaton .entry)) (now (trees .entry)) (tallyOf (now (tally .entry))) .check))
+        × (now (tally .exit) ≡ tallyNumbers (talliedOf (now (automaton .entry)) (now (trees .entry)) (tallyOf (now (tally .entry))) .tally)) ⌝ }
+{
+    let before = Tally {
+        accepted: tally[0],
+        other: tally[1],
+        refused: tally[2],
+    };
+    let tallied = crate::tally(automaton, trees, before);
+    let after = tallied.tally;
+    let check = tallied.check;
+    put_tally(after, tally);
+    put_check(check, told)
+}
+
+// The report on an automaton's file and trees' files end to end; its length.
+#[no_mangle]
+pub extern "C" fn engine_report(automaton: &[u8], trees: &[u8], text: &mut [u8; 357]) -> usize
+    ensures { λ r. ⌜ Appended (now (text .entry)) 0 (reportOf (now (automaton .entry)) (now (trees .entry))) (now (text .exit)) r ⌝ }
+{
+    crate::report(automaton, trees, text)
 }
