@@ -43,9 +43,10 @@ class Doors(unittest.TestCase):
                 file.write(data if isinstance(data, bytes) else data.encode())
         return path
 
-    def run_twa(self, *words, **options):
-        run = subprocess.run([sys.executable, os.path.join(HERE, 'twa.py'), *words], capture_output=True, timeout=60, **options)
+    def run_twa(self, *words):
+        run = subprocess.run([sys.executable, os.path.join(HERE, 'twa.py'), *words], capture_output=True, timeout=60)
         self.assertNotIn(b'Traceback', run.stderr)
+        self.assertLess(len(run.stderr), 5000)
         return run.returncode, run.stdout, run.stderr.decode()
 
     def made(self, *words):

@@ -28,7 +28,7 @@ MOVES = ['stay', 'up', 'left', 'right']
 
 STATES, SYMBOLS, RULES, NODES, HEIGHT = 24, 32, 512, 4096, 64
 WALKER_BYTES, PLAN_BYTES = 3072, 195
-TEXT_BYTES = 1 << 28
+TEXT_BYTES, MESSAGE = 1 << 28, 4000
 
 
 class Bad(Exception):
@@ -521,7 +521,9 @@ COMMANDS = {('walker', 2): write_walker, ('letters', 3): write_letters, ('show',
 
 
 def fail(status, message):
-    """Ends by a status and a message. Python's own end would tell of lost output again."""
+    """Ends by a status and a message, of which a long end is cut. Python's own end would tell of lost output again."""
+    if len(message) > MESSAGE:
+        message = message[:MESSAGE] + ' ..'
     try:
         os.write(2, f'{message}\n'.encode(errors='backslashreplace'))
     finally:
