@@ -29,8 +29,8 @@
 #define ENGINE_SINGLE_STACK (8 * 1024)
 #define ENGINE_COUNT_STACK (4 * 1024)
 #define ENGINE_PERCENT_STACK (4 * 1024)
-#define ENGINE_TALLY_STACK (96 * 1024)
-#define ENGINE_REPORT_STACK (128 * 1024)
+#define ENGINE_TALLY_STACK (80 * 1024)
+#define ENGINE_REPORT_STACK (108 * 1024)
 
 #ifdef __cplusplus
 extern "C" {
@@ -63,8 +63,9 @@ uint32_t engine_count(uint32_t tally[3], uint32_t outcome, size_t told[3]);
 /* 100 times accepted over accepted and other, to the nearest, half upward; 0 where both are 0. */
 uint32_t engine_percent(uint32_t accepted, uint32_t other);
 
-/* The tally of trees' files end to end (the report's batch): counts onto nothing. 0 tallied, 1 the automaton's file is refused (number,
- * file, place) and the tally is as it was. */
+/* Counts trees' files end to end (the report's batch) onto a tally of three numbers, which need not be 0: a file's first block gives its
+ * length; refusals 1 to 4, and trees that stop inside a file, count one refused and are the end; so is a full tally, uncounted.
+ * 0 tallied, 1 the automaton's file is refused (number, file, place), and the tally stays as it was. */
 uint32_t engine_tally(const uint8_t *automaton, size_t automaton_length, const uint8_t *trees, size_t trees_length, uint32_t tally[3],
                       size_t told[3]);
 

@@ -17,8 +17,9 @@ pub fn survey(file: &[u8]) -> Result<Survey, Refusal> {
 
 /// The engine's tally of trees' files end to end.
 pub fn tally(automaton: &[u8], trees: &[u8]) -> Result<Tally, Refusal> {
-    let ::engine::Tally { accepted, other, refused } = ::engine::tally(automaton, trees).map_err(refusal)?;
-    Ok([accepted, other, refused])
+    let mut tally = ::engine::Tally::default();
+    ::engine::tally(automaton, trees, &mut tally).map_err(refusal)?;
+    Ok([tally.accepted, tally.other, tally.refused])
 }
 
 /// The file of an automaton that the engine reads. It is read again for each tree that is judged alone.

@@ -122,10 +122,10 @@ pub fn single(file: &[u8]) -> Result<bool, Refusal> {
     }
 }
 
-/// Counts one outcome more; a tally that is full stays as it was, and refusal 14 is the answer.
-pub fn count(tally: &mut Tally, outcome: Outcome) -> Result<(), Refusal> {
+/// A call on the three numbers of a tally, which answers 0 or a refusal.
+fn on_numbers(tally: &mut Tally, call: impl FnOnce(&mut [u32; 3]) -> (u32, [usize; 3])) -> Result<(), Refusal> {
     let mut numbers = [tally.accepted, tally.other, tally.refused];
-    let answer = declared::count(&mut numbers, outcome as u32);
+    let answer = call(&mut numbers);
     let [accepted, other, refused] = numbers;
     *tally = Tally { accepted, other, refused };
     match answer {
@@ -134,22 +134,21 @@ pub fn count(tally: &mut Tally, outcome: Outcome) -> Result<(), Refusal> {
     }
 }
 
+/// Counts one outcome more; a tally that is full stays as it was, and refusal 14 is the answer.
+pub fn count(tally: &mut Tally, outcome: Outcome) -> Result<(), Refusal> {
+    on_numbers(tally, |numbers| declared::count(numbers, outcome as u32))
+}
+
 /// The percent of accepted trees among those judged, to the nearest, half upward; 0 where none was judged.
 pub fn percent(tally: Tally) -> u32 {
     declared::percent(tally)
 }
 
-/// The tally of trees' files end to end, by an automaton's file. (Document 01's batch: a file's first block gives its length; refusals 1 to
-/// 4, and trees that stop inside a file, count one refused and are the end.)
-pub fn tally(automaton: &[u8], trees: &[u8]) -> Result<Tally, Refusal> {
-    let mut numbers = [0; 3];
-    match declared::tally(automaton, trees, &mut numbers) {
-        (0, _) => {
-            let [accepted, other, refused] = numbers;
-            Ok(Tally { accepted, other, refused })
-        }
-        (_, told) => Err(Refusal::of(told)),
-    }
+/// Counts trees' files end to end, by an automaton's file, onto a tally. (Document 01's batch: a file's first block gives its length;
+/// refusals 1 to 4, and trees that stop inside a file, count one refused and are the end; a full tally is the end.) Where the automaton's
+/// file is refused the tally stays as it was.
+pub fn tally(automaton: &[u8], trees: &[u8], tally: &mut Tally) -> Result<(), Refusal> {
+    on_numbers(tally, |numbers| declared::tally(automaton, trees, numbers))
 }
 
 /// The report's text on an automaton's file and trees' files end to end: document 01's lines, in ASCII.

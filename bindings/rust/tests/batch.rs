@@ -44,6 +44,29 @@ fn small_batch(random: &mut Random) -> (Vec<u8>, Vec<u8>) {
     (automaton.write(), trees)
 }
 
+/// The tally that trees' files give, onto nothing.
+fn tally_of(automaton: &[u8], trees: &[u8]) -> Result<Tally, Refusal> {
+    let mut tally = Tally::default();
+    engine::tally(automaton, trees, &mut tally).map(|()| tally)
+}
+
+/// A batch goes onto the tally that is lent: in two parts it comes to the same, a full tally ends it uncounted, and an automaton's file
+/// that is refused leaves the tally as it was.
+#[test]
+fn onto() {
+    let automaton =
+        Automaton { states: 1, symbols: 2, initial: 1, accepting: 1, branches: 1, rules: Vec::new() }.write();
+    let leaf = tree::write(&[1]);
+    let mut tally = Tally { accepted: 999_997, other: 0, refused: 1 };
+    assert_eq!(engine::tally(&automaton, &leaf, &mut tally), Ok(()));
+    assert_eq!(tally, Tally { accepted: 999_998, other: 0, refused: 1 });
+    assert_eq!(engine::tally(&automaton, &[leaf.clone(), leaf.clone(), leaf.clone()].concat(), &mut tally), Ok(()));
+    assert_eq!(tally, Tally { accepted: 999_999, other: 0, refused: 1 });
+    let refusal = Refusal { number: 1, file: File::Automaton, place: 0 };
+    assert_eq!(engine::tally(&automaton[..511], &leaf, &mut tally), Err(refusal));
+    assert_eq!(tally, Tally { accepted: 999_999, other: 0, refused: 1 });
+}
+
 #[test]
 fn batches() {
     let (mut sum, mut automata_refused) = ([0u32; 3], 0);
@@ -61,7 +84,7 @@ fn batches() {
             }
             (_, Err(_)) => unreachable!("the automaton was read"),
         };
-        assert_eq!(engine::tally(&file, &trees), expected, "batch {seed}");
+        assert_eq!(tally_of(&file, &trees), expected, "batch {seed}");
         assert_eq!(report(&file, &trees), text.as_bytes(), "batch {seed}");
         match expected {
             Ok(Tally { accepted, other, refused }) => sum = [sum[0] + accepted, sum[1] + other, sum[2] + refused],
@@ -91,7 +114,7 @@ fn sizes() {
             assert_eq!(outcome, Outcome::Accepted);
             assert_eq!(count(&mut tally, outcome), Ok(()));
         }
-        assert_eq!(engine::tally(&automaton, &files.concat()), Ok(tally));
+        assert_eq!(tally_of(&automaton, &files.concat()), Ok(tally));
     }
 }
 
