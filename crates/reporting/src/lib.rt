@@ -1,168 +1,166 @@
-// The report on an automaton and a batch of trees, document 01's lines: read from two descriptors, written to standard output.
+// The report on an automaton and a batch of trees: read from two descriptors, written to standard output.
 use automaton::Header;
 use automaton::file::Parsed;
-use batch::Next;
-use emptiness::Quick;
-use emptiness::Survey;
+use batch::Turn;
+use refusal::Check;
 use refusal::Refusal;
 use tally::Tally;
-use transitions::single::Singleness;
+use tally::count_held;
+ghost use mathlib.Core.Path.{_≡_};
+ghost use mathlib.Core.Bool.{_&&_};
+ghost use mathlib.Core.List.{List};
+ghost use Prim.Native.Nat.{ℕ, _+_, _-_, _≤_};
+ghost use lib.ListN.{length, take};
+ghost use Rattle.blocks.specs.Blocks.{content};
+ghost use Rattle.automaton.specs.File.{parsed};
+ghost use Rattle.automaton.specs.declared.file.Parsed.{Parsed};
 ghost use Rattle.overloops.specs.Prepared.{Prepared};
+ghost use Rattle.batch.specs.Batch.{passes, turnOf};
+ghost use Rattle.wording.specs.Report.{refusedLine, headOf, tallyLine};
+ghost use Rattle.reporting.specs.Trace.{Asked, Handed, TurnRead};
+ghost use Rattle.reporting.specs.Reported.{Following, Tallied, Reported};
 
-fn number(label: &[u8], n: u64) {
-    io::write_all(1, label);
-    io::print_decimal(1, n);
+// A file descriptor.
+pub struct Descriptor(pub i32);
+
+// Reads bytes from..to of a buffer; how many there were. (Of these bytes nothing is known.)
+fn read_part(input: Descriptor, buffer: &mut [u8], from: usize, to: usize) -> usize
+    requires { ⌜ (from ≤ to) × (to ≤ length (now buffer)) ⌝ }
+    ensures { λ r. ⌜ (from + r ≤ to) × (take from (now (buffer .exit)) ≡ take from (now (buffer .entry))) × Asked input (to - from) r
+        × (from + r ≤ length (now (buffer .exit))) ⌝ }
+{
+    io::read_full(input.0, &mut buffer[from..to])
 }
 
-fn print_refused(refusal: Refusal) {
-    number(b"walker refused=", refusal.number as u64);
-    number(b" place=", refusal.place as u64);
-    io::write_all(1, b"\n");
-}
-
-// The file's counts, and whether no two rules meet. (A file that reads is not refused here.)
-fn print_automaton(header: Header, file: &[u8]) {
-    number(b"walker states=", header.states as u64);
-    number(b" symbols=", header.symbols as u64);
-    number(b" rules=", header.rules as u64);
-    match transitions::single::single_file(file) {
-        Singleness::Single => {
-            io::write_all(1, b" single=yes\n");
-        }
-        Singleness::Multiple => {
-            io::write_all(1, b" single=no\n");
-        }
-        Singleness::Refused(refusal) => print_refused(refusal),
-    }
-}
-
-fn print_quick(file: &[u8]) {
-    match emptiness::file::quick(file) {
-        Quick::Clear => {
-            io::write_all(1, b"quick clear\n");
-        }
-        Quick::Unsure => {
-            io::write_all(1, b"quick unsure\n");
-        }
-        Quick::Refused(refusal) => print_refused(refusal),
-    }
-}
-
-fn print_verdict(verdict: &[u8], height: usize, rows: usize) {
-    io::write_all(1, verdict);
-    number(b" height=", height as u64);
-    number(b" rows=", rows as u64);
-    io::write_all(1, b"\n");
-}
-
-fn print_survey(file: &[u8]) {
-    let mut plan = [0u8; 195];
-    match emptiness::file::survey(file, &mut plan) {
-        Survey::Found(height, rows) => print_verdict(b"survey found", height, rows),
-        Survey::Open(height) => print_verdict(b"survey open", height, 0),
-        Survey::Empty(height) => print_verdict(b"survey empty", height, 0),
-        Survey::Refused(refusal) => print_refused(refusal),
-    }
-}
-
-fn print_tally(tally: Tally) {
-    number(b"documents accepted=", tally.accepted as u64);
-    number(b" other=", tally.other as u64);
-    number(b" refused=", tally.refused as u64);
-    number(b" percent=", tally::percent(tally) as u64);
-    io::write_all(1, b"\n");
-}
-
-// The first n bytes of a buffer, or none where it has fewer.
-fn front(buffer: &[u8], n: usize) -> &[u8] {
-    if n <= buffer.len() {
-        &buffer[..n]
-    } else {
-        &buffer[..0]
-    }
-}
-
-// Reads bytes from..to of a buffer; how many there were.
-fn read_part(input: i32, buffer: &mut [u8], from: usize, to: usize) -> usize {
-    if to < from {
-        return 0;
-    }
-    if buffer.len() < to {
-        return 0;
-    }
-    io::read_full(input, &mut buffer[from..to])
-}
-
-// Reads the next tree's file into a buffer of 4,608 bytes, and judges and counts it. Nothing is counted where the input has ended.
-fn next_in(
-    tally: Tally,
+// Reads the next tree's file into a buffer; what was read comes to.
+fn turn_into(
     header: Header,
     table: &[u32],
     leaves: &[u32],
-    input: i32,
+    input: Descriptor,
     file: &mut [u8],
-) -> Next
-    requires { ⌜ Prepared header (now table) (now leaves) ⌝ }
+) -> Turn
+    requires { ⌜ Prepared header (now table) (now leaves) × (length (now file) ≡ 4608) ⌝ }
+    ensures { λ r. ⌜ ((p : Prepared header (now (table .entry)) (now (leaves .entry)))
+        → (n : ℕ) × (r ≡ turnOf header (content (p .file)) (take n (now (file .exit)))) × TurnRead input (take n (now (file .exit)))) ⌝ }
 {
     let first = read_part(input, file, 0, 512);
-    if first == 0 {
-        return Next { tally, more: false };
-    }
     if first < 512 {
-        return batch::cut_off(tally);
+        return batch::turn_in(header, table, leaves, &file[..first]);
     }
-    let end = 512 * batch::file_blocks(front(file, 512));
+    let end = batch::first_length(&file[..512]);
     let rest = read_part(input, file, 512, end);
-    if rest < end - 512 {
-        return batch::cut_off(tally);
-    }
-    batch::judge_next(tally, header, table, leaves, front(file, end))
+    let all = 512 + rest;
+    batch::turn_in(header, table, leaves, &file[..all])
 }
 
-fn next_file(tally: Tally, header: Header, table: &[u32], leaves: &[u32], input: i32) -> Next
+fn read_turn(header: Header, table: &[u32], leaves: &[u32], input: Descriptor) -> Turn
     requires { ⌜ Prepared header (now table) (now leaves) ⌝ }
+    ensures { λ r. ⌜ ((p : Prepared header (now (table .entry)) (now (leaves .entry)))
+        → (s : List ℕ) × (r ≡ turnOf header (content (p .file)) s) × TurnRead input s) ⌝ }
 {
     let mut file = [0u8; 4608];
-    next_in(tally, header, table, leaves, input, &mut file)
+    turn_into(header, table, leaves, input, &mut file)
 }
 
-// The tally of all files of the input. The tally refuses the 1,000,001st, which ends the batch.
-fn tally_files(header: Header, table: &[u32], leaves: &[u32], input: i32) -> Tally
+// The next turn, where the batch goes on.
+fn turn_after(
+    check: Check,
+    more: bool,
+    header: Header,
+    table: &[u32],
+    leaves: &[u32],
+    input: Descriptor,
+) -> Turn
     requires { ⌜ Prepared header (now table) (now leaves) ⌝ }
+    ensures { λ r. ⌜ ((p : Prepared header (now (table .entry)) (now (leaves .entry)))
+        → Following (passes check && more) input header (content (p .file)) r) ⌝ }
+{
+    if batch::goes_on(check, more) {
+        read_turn(header, table, leaves, input)
+    } else {
+        Turn::End
+    }
+}
+
+// The tally of all files of the input. It ends, since the tally refuses the 1,000,001st.
+fn tally_files(header: Header, table: &[u32], leaves: &[u32], input: Descriptor) -> Tally
+    requires { ⌜ Prepared header (now table) (now leaves) ⌝ }
+    ensures { λ r. ⌜ ((p : Prepared header (now (table .entry)) (now (leaves .entry)))
+        → Tallied input header (content (p .file)) r) ⌝ }
 {
     let mut tally = Tally {
         accepted: 0,
         other: 0,
         refused: 0,
     };
-    for _ in 0..1000001usize {
-        let next = next_file(tally, header, table, leaves, input);
-        tally = next.tally;
-        if !next.more {
-            return tally;
+    let mut turn = read_turn(header, table, leaves, input);
+    loop {
+        match turn {
+            Turn::End => return tally,
+            Turn::File(outcome, more) => {
+                let counted = count_held(tally, outcome);
+                let check = counted.check;
+                tally = counted.tally;
+                turn = turn_after(check, more, header, table, leaves, input);
+            }
         }
     }
-    tally
 }
 
-fn report_file(file: &[u8], input: i32) {
+// Hands a text to standard output; whether all of it was taken.
+fn print(text: &[u8]) -> bool
+    ensures { λ r. ⌜ Handed (now (text .entry)) r ⌝ }
+{
+    io::write_all(1, text)
+}
+
+fn print_refused(refusal: Refusal) -> bool
+    ensures { λ r. ⌜ Handed (refusedLine refusal) r ⌝ }
+{
+    let mut out = [0u8; 63];
+    let end = wording::put_refused(&mut out, 0, refusal);
+    print(&out[..end])
+}
+
+fn print_head(file: &[u8], header: Header) -> bool
+    ensures { λ r. ⌜ (parsed (now (file .entry)) ≡ Parsed.Read header → Handed (headOf header (now (file .entry))) r) ⌝ }
+{
+    let mut out = [0u8; 232];
+    let end = wording::put_read(&mut out, file, header);
+    print(&out[..end])
+}
+
+fn print_tally(tally: Tally) -> bool
+    ensures { λ r. ⌜ Handed (tallyLine tally) r ⌝ }
+{
+    let mut out = [0u8; 125];
+    let end = wording::put_tally(&mut out, 0, tally);
+    print(&out[..end])
+}
+
+fn report_file(file: &[u8], input: Descriptor) -> bool
+    ensures { λ r. ⌜ Reported (parsed (now (file .entry))) (now (file .entry)) input r ⌝ }
+{
     let mut table = [0u32; 9216];
     let mut leaves = [0u32; 1536];
     match overloops::prepare(file, &mut table, &mut leaves) {
         Parsed::Refused(refusal) => print_refused(refusal),
         Parsed::Read(header) => {
-            print_automaton(header, file);
-            print_quick(file);
-            print_survey(file);
-            print_tally(tally_files(header, &table, &leaves, input));
+            let first = print_head(file, header);
+            let tally = tally_files(header, &table, &leaves, input);
+            let last = print_tally(tally);
+            first & last
         }
     }
 }
 
-// The report on the automaton's file behind one descriptor (as empty if it cannot be read) and the trees' files behind the other. An
-// automaton's file that is too long is known by one byte over the most.
-pub fn report(automaton: i32, input: i32) {
+// The report on the automaton's file behind one descriptor (as empty if it cannot be read) and the trees' files behind the other; whether all
+// of it was taken. An automaton's file that is too long is known by one byte over the most.
+pub fn report(automaton: Descriptor, input: Descriptor) -> bool
+    ensures { λ r. ⌜ ((w : List ℕ) × Asked automaton 3073 (length w) × Reported (parsed w) w input r) ⌝ }
+{
     let mut file = [0u8; 3073];
-    let n = io::read_full(automaton, &mut file);
-    report_file(front(&file, n), input);
+    let n = read_part(automaton, &mut file, 0, 3073);
+    report_file(&file[..n], input)
 }

@@ -1,0 +1,3 @@
+-- What is reported of files that are read from descriptors.
+pub mod Trace
+pub mod Reported

@@ -1,0 +1,32 @@
+-- What the report says of files that are read in turns. Nothing is known of the bytes that reading gives, so that this says: there are bytes,
+-- those of the turns, of which this is the report.
+-- Interface: `Tallied`, `Following`, `Reported`.
+use mathlib.Core.Path.{_≡_}
+use mathlib.Core.Bool.{Bool, true, false, _&&_}
+use mathlib.Core.List.{List, _∷_}
+use Prim.Native.Nat.{ℕ}
+use Rattle.blocks.specs.Blocks.{content}
+use Rattle.automaton.specs.declared.Header.{Header}
+use Rattle.automaton.specs.declared.file.Parsed.{Parsed}
+use Rattle.tally.specs.declared.Tally.{Tally}
+use Rattle.batch.specs.Batch.{nothingCounted, turnOf}
+use Rattle.batch.specs.Turns.{Ended}
+use Rattle.batch.specs.declared.Turn.{Turn}
+use Rattle.wording.specs.Report.{refusedLine, headOf, tallyLine}
+use Rattle.reporting.specs.declared.Descriptor.{Descriptor}
+use Rattle.reporting.specs.Trace.{Handed, TurnRead, TurnsRead}
+
+-- where a batch goes on, the next turn is that of bytes that were read; else there is none
+abbrev pub Following : (on : Bool) → (descriptor : Descriptor) → Header → (p : List ℕ) → Turn → Type 0
+Following true descriptor h p turn = (s : List ℕ) × (turn ≡ turnOf h p s) × TurnRead descriptor s
+Following false descriptor h p turn = turn ≡ Turn.End
+
+-- a tally is that of turns, all but the last of which went on: by `InTurns.ended-batch` of the crate batch, of all that was read
+abbrev pub Tallied : (descriptor : Descriptor) → Header → (p : List ℕ) → Tally → Type 0
+Tallied descriptor h p t = (last : List ℕ) × (ss : List (List ℕ)) × Ended h p nothingCounted last ss t × TurnsRead descriptor (last ∷ ss)
+
+-- of an automaton's file w, and trees' files from a descriptor: what was handed over, and whether all of it was taken
+abbrev pub Reported : Parsed → (w : List ℕ) → (descriptor : Descriptor) → (took : Bool) → Type 0
+Reported (Parsed.Read h) w descriptor took =
+    (t : Tally) × Tallied descriptor h (content w) t × (first : Bool) × (last : Bool) × Handed (headOf h w) first × Handed (tallyLine t) last × (took ≡ (first && last))
+Reported (Parsed.Refused r) w descriptor took = Handed (refusedLine r) took
