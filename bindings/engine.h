@@ -1,17 +1,36 @@
 /* The engine for tree-walking automata: target/staticlib/libengine.a, which `rt staticlib engine` writes (x86-64 Linux).
  *
- * Automata and trees are given as the bytes of their files (document 01's walker and letter files). Every function answers every input: a
- * bad file gets its refusal. The contracts are in crates/engine/src/numbers.rt, the encodings in crates/engine/specs/Numbers.antt.
+ * Automata and trees are given as the bytes of their files (document 01's walker and letter files; docs/REFUSALS.md has both layouts and
+ * the refusals). Every function answers every input: a bad file gets its refusal. The contracts are in crates/engine/src/numbers.rt, the
+ * encodings in crates/engine/specs/Numbers.antt.
  *
- * Pointers are never null, also where the length is 0. `told`, `plan` and `tally` are written to and overlap nothing else.
+ * Pointers. A pointer with a length points at so many bytes, or more; it is never null, also where the length is 0. A pointer to numbers
+ * is aligned as its type is. What a function writes to (told, plan, tally, text) overlaps nothing else that it was given; what it only
+ * reads may overlap. Nothing is kept after the call.
  *
- * `told` has three numbers afterwards: what the answer tells, or, of a refusal, its number in document 01's table (1 to 14), the file
- * (0 automaton, 1 tree, 2 neither), and the place that the table names. What an answer does not tell is 0. */
+ * What is written. `told` is always written, all three numbers: what the answer tells, or, of a refusal, its number in document 01's table
+ * (1 to 14), the file (0 automaton, 1 tree, 2 neither), and the place that the table names; what an answer does not tell is 0. `plan`,
+ * `tally` and `text` are changed only as said below, and no other memory is.
+ *
+ * Threads. Calls share nothing: there is no state between them, no allocation, no lock, no file and no signal. Any number of threads may
+ * call at one time, each with memory of its own to be written to.
+ *
+ * Stack. A call takes at most so many bytes above its caller, whatever the input: measured on the inputs that take most, and held there, by
+ * bindings/stack.c. The first call in a program may take a few kilobytes more, where the dynamic linker looks up memset and memcpy. */
 #ifndef ENGINE_H
 #define ENGINE_H
 
 #include <stddef.h>
 #include <stdint.h>
+
+#define ENGINE_JUDGE_STACK (80 * 1024)
+#define ENGINE_SURVEY_STACK (64 * 1024)
+#define ENGINE_QUICK_STACK (52 * 1024)
+#define ENGINE_SINGLE_STACK (8 * 1024)
+#define ENGINE_COUNT_STACK (4 * 1024)
+#define ENGINE_PERCENT_STACK (4 * 1024)
+#define ENGINE_TALLY_STACK (80 * 1024)
+#define ENGINE_REPORT_STACK (108 * 1024)
 
 #ifdef __cplusplus
 extern "C" {
@@ -43,6 +62,15 @@ uint32_t engine_count(uint32_t tally[3], uint32_t outcome, size_t told[3]);
 
 /* 100 times accepted over accepted and other, to the nearest, half upward; 0 where both are 0. */
 uint32_t engine_percent(uint32_t accepted, uint32_t other);
+
+/* Counts trees' files end to end (the report's batch) onto a tally of three numbers, which need not be 0: a file's first block gives its
+ * length; refusals 1 to 4, and trees that stop inside a file, count one refused and are the end; so is a full tally, uncounted.
+ * 0 tallied, 1 the automaton's file is refused (number, file, place), and the tally stays as it was. */
+uint32_t engine_tally(const uint8_t *automaton, size_t automaton_length, const uint8_t *trees, size_t trees_length, uint32_t tally[3],
+                      size_t told[3]);
+
+/* The report's text on an automaton's file and trees' files end to end, at the front of the buffer; its length. Later bytes stay. */
+size_t engine_report(const uint8_t *automaton, size_t automaton_length, const uint8_t *trees, size_t trees_length, uint8_t text[357]);
 
 #ifdef __cplusplus
 }

@@ -1,48 +1,64 @@
-/* Judges the trees of a file, each of one block, by an automaton's file, and prints each verdict and the percent accepted:
+/* Prints the report on an automaton's file and trees' files end to end, as the program `report` does:
  *
- *     example walker.blk letters.blk */
+ *     example walker.blk letters.blk
+ *
+ * The status is 0 where the report was written in full, and 1 where a file could not be read or the output was lost. */
 #include "engine.h"
+#include <errno.h>
 #include <stdio.h>
+#include <stdlib.h>
+#include <string.h>
 
-enum { BLOCK = 512, MOST = 3073 };
+struct bytes {
+    uint8_t *at;
+    size_t length;
+};
 
-/* The bytes of a file, at most MOST of them; a file that cannot be opened is empty. */
-static size_t read_file(const char *path, uint8_t bytes[MOST])
+static void fail(const char *what)
 {
-    FILE *file = fopen(path, "rb");
-    if (file == NULL)
-        return 0;
-    size_t length = fread(bytes, 1, MOST, file);
-    fclose(file);
-    return length;
+    fprintf(stderr, "example: %s: %s\n", what, strerror(errno));
+    exit(1);
 }
 
-static void print_answer(uint32_t answer, const size_t told[3])
+/* All bytes of a stream, in a buffer that doubles when it is full. */
+static struct bytes read_all(FILE *stream, const char *path)
 {
-    if (answer == 0)
-        puts("accepted");
-    else if (answer == 1)
-        puts("other");
-    else
-        printf("refused: number %zu, file %zu, place %zu\n", told[0], told[1], told[2]);
+    size_t room = 4096;
+    struct bytes bytes = {malloc(room), 0};
+    while (bytes.at != NULL) {
+        bytes.length += fread(bytes.at + bytes.length, 1, room - bytes.length, stream);
+        if (bytes.length < room)
+            break;
+        room *= 2;
+        bytes.at = realloc(bytes.at, room);
+    }
+    if (bytes.at == NULL || ferror(stream))
+        fail(path);
+    return bytes;
+}
+
+static struct bytes read_file(const char *path)
+{
+    FILE *stream = fopen(path, "rb");
+    if (stream == NULL)
+        fail(path);
+    struct bytes bytes = read_all(stream, path);
+    fclose(stream);
+    return bytes;
 }
 
 int main(int count, char **words)
 {
-    static uint8_t automaton[MOST], trees[MOST];
-    uint32_t tally[3] = {0, 0, 0};
-    size_t told[3];
+    uint8_t text[357];
     if (count != 3) {
         fputs("example AUTOMATON TREES\n", stderr);
         return 2;
     }
-    size_t automaton_length = read_file(words[1], automaton);
-    size_t trees_length = read_file(words[2], trees);
-    for (size_t at = 0; at + BLOCK <= trees_length; at += BLOCK) {
-        uint32_t answer = engine_judge(automaton, automaton_length, trees + at, BLOCK, told);
-        print_answer(answer, told);
-        engine_count(tally, answer, told);
-    }
-    printf("%u percent\n", (unsigned)engine_percent(tally[0], tally[1]));
+    struct bytes automaton = read_file(words[1]), trees = read_file(words[2]);
+    size_t length = engine_report(automaton.at, automaton.length, trees.at, trees.length, text);
+    if (fwrite(text, 1, length, stdout) != length || fclose(stdout) != 0)
+        fail("standard output");
+    free(automaton.at);
+    free(trees.at);
     return 0;
 }

@@ -3,9 +3,10 @@
 
 The reading below is written from document 01's table and shares nothing with the engine. Where document 01 itself gives an
 example's answer, the case states it (the last argument) and the reading is held to it."""
-import random, struct
+import os, random, struct
 
 random.seed(1)
+HERE = os.path.join(os.path.dirname(os.path.abspath(__file__)), '..', 'crates', 'cases')
 
 
 # ---- files
@@ -287,9 +288,9 @@ for i in range(60):
 
 seen = {line: sum(' refused=%d ' % line in c[3] + ' ' for c in cases) for line in range(1, 13)}
 assert all(n >= 2 for n in seen.values()), seen
-with open('crates/cases/stdin', 'wb') as f:
+with open(os.path.join(HERE, 'stdin'), 'wb') as f:
     for label, w, t, got in cases:
         f.write(struct.pack('<BHH', len(label), len(w), 65535 if t is None else len(t)) + label.encode() + bytes(w) + bytes(t or b''))
-with open('crates/cases/stdout', 'w') as f:
+with open(os.path.join(HERE, 'stdout'), 'w') as f:
     for label, w, t, got in cases: f.write(label + ':' + got + '\n')
 print(len(cases), 'cases;', 'refusals by number:', ' '.join('%d:%d' % kv for kv in seen.items()))

@@ -1,7 +1,9 @@
 #!/usr/bin/env python3
 """Writes crates/report_cases: pairs of a walker file and letters, and the report that document 01 asks for on each.
 
-The expected lines are written down here from document 01 and share nothing with the engine."""
+The expected lines are written down here from document 01 and share nothing with the engine. Of the cases in LARGER they are computed: by
+search over configurations, tree by tree, and the survey and the quick check word for word; where the construction of a walker or a batch
+tells a line, the case states it and the computed line is held to it."""
 import os, shutil, struct
 from twa import write_blocks as blocks
 
@@ -93,12 +95,254 @@ CASES = [
 ]
 
 
+# ---- runs, crossings, survey and quick check, by search
+
+class Walker:
+    def __init__(self, n, m, start, final, branch, rules):
+        self.n, self.m, self.rules = n, m, rules
+        self.start, self.final = [{p for p in range(n) if bits >> p & 1} for bits in (start, final)]
+        self.branches = [a for a in range(m) if branch >> a & 1]
+        self.leaves = [a for a in range(m) if not branch >> a & 1]
+        self.steps = {}
+        for symbol, state, place, move, following in rules:
+            for p in (0, 1, 2) if place == 3 else (place,):
+                self.steps.setdefault((symbol, p, state), []).append((move, following))
+        self.file = walker(n, m, start, final, branch, rules)
+
+    def is_single(self):
+        return all(len(steps) == 1 for steps in self.steps.values())
+
+
+class Tree:
+    """A tree by its preorder list: for each node its parent, its parts and the place where it stands. `fault` is what lines 10 to 12 say."""
+
+    def __init__(self, automaton, symbols):
+        self.symbols = symbols
+        self.parent, self.parts, self.place, depth = [], [[] for _ in symbols], [], []
+        waiting, self.fault = [(None, 0, 0)], None
+        for node, symbol in enumerate(symbols):
+            if symbol >= automaton.m or not waiting:
+                self.fault = 10 if max(symbols) >= automaton.m else 11
+                return
+            parent, place, deep = waiting.pop()
+            self.parent.append(parent), self.place.append(place), depth.append(deep)
+            if parent is not None:
+                self.parts[parent].append(node)
+            if symbol in automaton.branches:
+                waiting += [(node, 2, deep + 1), (node, 1, deep + 1)]
+        self.fault = 11 if waiting else 12 if max(depth) > 64 else None
+
+
+def reached(automaton, tree, place, state):
+    """The states at the root, and those in which the root is left upward, of all runs that begin at the root in a state and stay inside."""
+    seen, front, out = {(0, state)}, [(0, state)], set()
+    while front:
+        node, state = front.pop()
+        for move, following in automaton.steps.get((tree.symbols[node], tree.place[node] if node else place, state), []):
+            if move == 1 and node == 0:
+                out.add(following)
+                continue
+            to = [node, tree.parent[node]][move] if move < 2 else tree.parts[node][move - 2]
+            if (to, following) not in seen:
+                seen.add((to, following))
+                front.append((to, following))
+    return {state for node, state in seen if node == 0}, out
+
+
+def accepts(automaton, tree):
+    return any(reached(automaton, tree, 0, state)[0] & automaton.final for state in automaton.start)
+
+
+def crossings(automaton, tree, place):
+    return frozenset((p, q) for p in range(automaton.n) for q in reached(automaton, tree, place, p)[1])
+
+
+def survey(automaton):
+    """Document 01's rounds. A row is its tree's list."""
+    rows, classes, height, known = [], set(), 0, {}
+    while True:
+        pairs = [(left, right) for left in range(len(rows)) for right in range(len(rows))]
+        candidates = [(a, l, r) for a in automaton.branches for l, r in pairs] if height else [(a, None, None) for a in automaton.leaves]
+        for symbol, left, right in candidates:
+            if (symbol, left, right) not in known:
+                tree = Tree(automaton, [symbol] + ([] if left is None else rows[left] + rows[right]))
+                known[symbol, left, right] = tree.symbols, accepts(automaton, tree), tuple(crossings(automaton, tree, place) for place in (1, 2))
+        if any(known[candidate][1] for candidate in candidates):
+            return f'survey found height={height} rows={len(rows) + 1}'
+        before = len(rows)
+        for candidate in candidates:
+            symbols, _, class_ = known[candidate]
+            if class_ not in classes:
+                classes.add(class_)
+                rows.append(symbols)
+        if len(rows) > 64:
+            return f'survey open height={height} rows=0'
+        if len(rows) == before:
+            return f'survey empty height={height} rows=0'
+        height += 1
+
+
+def formed(automaton, symbol, place, left, right):
+    """The pairs of states that a root of this symbol and place leads through, its parts having these crossings; and those out of it."""
+    pairs = {(p, p) for p in range(automaton.n)}
+    ups = set()
+    for p in range(automaton.n):
+        for move, q in automaton.steps.get((symbol, place, p), []):
+            if move == 1:
+                ups.add((p, q))
+            else:
+                pairs |= {(p, q)} if move == 0 else {(p, y) for x, y in (left if move == 2 else right) if x == q}
+    while True:
+        chains = pairs | {(p, s) for p, q in pairs for r, s in pairs if q == r}
+        if chains == pairs:
+            return pairs, {(p, s) for p, q in pairs for r, s in ups if q == r}
+        pairs = chains
+
+
+def quick(automaton):
+    left, right, before = frozenset(), frozenset(), None
+    while before != (left, right):
+        before = left, right
+        parts = [(a, frozenset(), frozenset()) for a in automaton.leaves] + [(a, left, right) for a in automaton.branches]
+        left = left.union(*(formed(automaton, a, 1, l, r)[1] for a, l, r in parts))
+        right = right.union(*(formed(automaton, a, 2, l, r)[1] for a, l, r in parts))
+    roots = {(p, p) for p in range(automaton.n)}.union(*(formed(automaton, a, 0, l, r)[0] for a, l, r in parts))
+    return 'quick unsure' if any(p in automaton.start and q in automaton.final for p, q in roots) else 'quick clear'
+
+
+def verdict(automaton, symbols):
+    """0 accepted, 1 other, 2 refused, of a letter's list."""
+    tree = Tree(automaton, symbols)
+    return 2 if tree.fault else 0 if accepts(automaton, tree) else 1
+
+
+def computed(name, automaton, letters, states):
+    """The case of a walker and letters, each a list of symbols or, where it is refused by line 6, the file itself. What the case states of the
+    report is held to what is computed."""
+    counts, known = [0, 0, 0], {}
+    for symbols in letters:
+        key = symbols if isinstance(symbols, bytes) else tuple(symbols)
+        if key not in known:
+            known[key] = 2 if isinstance(symbols, bytes) else verdict(automaton, symbols)
+        counts[known[key]] += 1
+    judged = counts[0] + counts[1]
+    percent = (200 * counts[0] + judged) // (2 * judged) if judged else 0
+    head = f'walker states={automaton.n} symbols={automaton.m} rules={len(automaton.rules)} single={"yes" if automaton.is_single() else "no"}'
+    expected = [head, quick(automaton), survey(automaton), documents(*counts, percent)]
+    for line in states:
+        assert line in expected, (name, line, expected)
+    return name, automaton.file, b''.join(symbols if isinstance(symbols, bytes) else letter(symbols) for symbols in letters), expected
+
+
+# ---- larger walkers and batches
+
+THE_EXAMPLE = Walker(2, 3, 1, 2, 4, A)
+
+
+def spine_of(length, final=12):
+    """Accepts the trees whose left spine has this many branches, or this and some twelves more: states 0 to 11 count, 12 goes back up. With
+    the final state 13, which no rule leads to, it accepts none."""
+    rules = [(1, p, place, 2, (p + 1) % 12) for p in range(12) for place in (0, 1)]
+    rules += [(0, length % 12, 1, 1, 12), (1, 12, 1, 1, 12)]
+    return Walker(14, 2, 1, 1 << final, 2, rules)
+
+
+def spines(*cycles):
+    """Left spines are told apart by their lengths modulo those of the cycles; from 3, 4 and 7 there is one class more at each height. From the
+    root the left part is asked twice: whether 3 divides the length of its spine (by 0, back in 14), and whether the length is 2 modulo 3 (by
+    17, back in 19). No tree has both, and the quick check, which takes trees together, is unsure."""
+    rules = []
+    for first, length, back in [(0, 3, 14), (16, 3, 19), *cycles]:
+        rules += [(0, first, 1, 1, back)] + [(1, first + i, 1, 2, first + (i + 1) % length) for i in range(length)]
+    rules += [(1, 14, 1, 1, 14), (1, 19, 1, 1, 19), (1, 15, 0, 2, 0), (1, 14, 0, 2, 17)]
+    return Walker(20, 2, 1 << 15, 1 << 19, 2, rules)
+
+
+def pairs_of_leaves(count):
+    """Leaf symbols 0 to 7, of which `count` are there, and a branch. A leaf entered in 0, 1 or 2 is left in 9 where its number has that bit;
+    a branch entered in 3, 4 or 5 asks its left part for a bit, in 6, 7 or 8 its right part, and lets 9 go up. So all trees of height at most 1
+    are unlike."""
+    rules = [(leaf, bit, place, 1, 9) for leaf in range(count) for bit in range(3) if leaf >> bit & 1 for place in (1, 2)]
+    for place in (1, 2):
+        rules += [(count, 3 + bit, place, 2, bit) for bit in range(3)] + [(count, 6 + bit, place, 3, bit) for bit in range(3)]
+        rules += [(count, 9, place, 1, 9)]
+    return rules
+
+
+def leaf_pairs(count):
+    return Walker(10, count + 1, 0, 0, 1 << count, pairs_of_leaves(count))
+
+
+def leaf_pairs_found():
+    """Six leaves; from the root, in 10, the right part is asked for bit 2 of the leaf that is its left part: height 2, after 6 leaves and 36
+    branches over leaves."""
+    return Walker(11, 7, 1 << 10, 1 << 9, 1 << 6, pairs_of_leaves(6) + [(6, 10, 0, 3, 5)])
+
+
+def low(nodes, last):
+    """A tree of so many nodes, an odd number, as low as can be, over the example's symbols; its last leaf is given."""
+    if nodes == 1:
+        return [last]
+    left = (nodes - 1) // 2 | 1
+    return [2] + low(left, 0) + low(nodes - 1 - left, last)
+
+
+def changed(symbols, at, symbol):
+    return symbols[:at] + [symbol] + symbols[at + 1:]
+
+
+def misfilled(symbols, offset):
+    """A letter whose byte at an offset, zero by the layout, is 1."""
+    payload = struct.pack('<BBH', 84, 0, len(symbols)) + bytes(symbols)
+    payload = payload.ljust(-(-len(payload) // 508) * 508, b'\0')
+    return blocks(payload[:offset] + b'\1' + payload[offset + 1:])
+
+
+def refused_walker(place, rule):
+    """A walker of 400 rules, of which one is another; line 8 or 9 tells it by its number."""
+    rules = (A * 100)[:place] + [rule] + (A * 100)[place + 1:]
+    return walker(2, 3, 1, 2, 4, rules)
+
+
+ACCEPTED, OTHER = [2, 0, 1], [2, 1, 0]
+COMB_64, COMB_65 = [2, 0] * 64 + [1], [2, 0] * 65 + [1]
+# Of 1,100 letters each seventy-third is refused, 15 in all, and each seventeenth not accepted, 64 in all; none is both.
+THOUSAND = [[3] if i % 73 == 72 else OTHER if i % 17 == 16 else ACCEPTED for i in range(1100)]
+
+LARGER = [
+    ('rule 10 refused', refused_walker(10, (1, 0, 3, 1, 1)), letter(ACCEPTED), ['walker refused=9 place=10']),
+    ('rule 300 refused', refused_walker(300, (2, 0, 0, 4, 0)), letter(ACCEPTED), ['walker refused=8 place=300']),
+    ('rule 399 refused', refused_walker(399, (0, 0, 1, 2, 0)), letter(ACCEPTED), ['walker refused=9 place=399']),
+    ('filler refused', filled(EXAMPLE, 507), letter(ACCEPTED), ['walker refused=6 place=507']),
+    ('more rules than blocks', blocks(struct.pack('<BBBBHHIII', 87, 2, 3, 0, 512, 0, 1, 2, 4)), b'', ['walker refused=5 place=6']),
+    computed('found at height 11, rows 12', spine_of(11), [[0], [1, 0, 0], [1] * 11 + [0] * 12, [1] * 23 + [0] * 24, [1] * 12 + [0] * 13],
+             ['survey found height=11 rows=12', documents(2, 3, 0, 40)]),
+    computed('found at height 4, rows 5', spine_of(4), [[1] * 4 + [0] * 5], ['survey found height=4 rows=5', documents(1, 0, 0, 100)]),
+    computed('open at height 64', spines((3, 4, 14), (7, 7, 14)), [[1, 0, 0], [1] * 64 + [0] * 65], ['survey open height=64 rows=0', 'quick unsure', documents(0, 2, 0, 0)]),
+    computed('empty at height 4, unsure', spines(), [[1, 0, 0]], ['survey empty height=4 rows=0', 'quick unsure', documents(0, 1, 0, 0)]),
+    computed('empty at height 13', spine_of(11, 13), [[1] * 11 + [0] * 12], ['survey empty height=13 rows=0', 'quick clear', documents(0, 1, 0, 0)]),
+    computed('open at height 1', leaf_pairs(8), [[8, 0, 1]], ['survey open height=1 rows=0', 'quick clear']),
+    computed('found at height 2, rows 43', leaf_pairs_found(), [[6, 0, 6, 4, 1], [6, 0, 6, 1, 4], [6, 6, 4, 4, 0]],
+             ['survey found height=2 rows=43', documents(1, 2, 0, 33)]),
+    computed('letters of two blocks', THE_EXAMPLE, [low(505, 1), low(505, 0), low(1011, 1), ACCEPTED, low(1011, 0), low(503, 1)], [documents(4, 2, 0, 67)]),
+    computed('letters of nine blocks', THE_EXAMPLE, [low(4095, 0), low(4095, 1), OTHER, low(4061, 1), low(4095, 1)], [documents(3, 2, 0, 60)]),
+    computed('refusals 10 to 12 between accepted letters', THE_EXAMPLE,
+             [ACCEPTED, [2, 0, 3], ACCEPTED, [2, 0, 1, 0], ACCEPTED, [2, 2, 0, 1], ACCEPTED, COMB_65, COMB_64], [documents(5, 0, 4, 100)]),
+    computed('refusals in letters of many blocks', THE_EXAMPLE,
+             [changed(low(1011, 1), 700, 3), low(505, 1), low(4095, 1) + [0], low(505, 0), [2] * 600, low(4095, 1), low(505, 1)[:-1] + COMB_65, OTHER, ACCEPTED],
+             [documents(3, 2, 4, 60)]),
+    computed('refusal 6 between accepted letters', THE_EXAMPLE,
+             [ACCEPTED, misfilled(ACCEPTED, 1), ACCEPTED, misfilled(ACCEPTED, 507), low(505, 1), misfilled(low(505, 1), 1015), ACCEPTED, OTHER], [documents(4, 1, 3, 80)]),
+    computed('eleven hundred letters', THE_EXAMPLE, THOUSAND, [documents(1021, 64, 15, 94)]),
+]
+
+
 def main():
     data = os.path.join(HERE, 'data')
     shutil.rmtree(data, ignore_errors=True)
     os.makedirs(data)
     lines = []
-    for number, (name, automaton, letters, expected) in enumerate(CASES):
+    for number, (name, automaton, letters, expected) in enumerate(CASES + LARGER):
         if automaton is not None:
             open(os.path.join(data, f'{number:02}.walker'), 'wb').write(automaton)
         open(os.path.join(data, f'{number:02}.letters'), 'wb').write(letters)

@@ -37,6 +37,8 @@ def damaged(file, draw):
 
 
 def main(count):
+    if not os.path.exists(PROGRAM):
+        sys.exit('there is no target/bin/report: build it by tools/report')
     draw = random.Random(1)
     samples = [[open(os.path.join(HERE, 'samples', name, kind), 'rb').read() for kind in ('walker.blk', 'letters.blk')] for name in ('example', 'annex')]
     refused = reported = 0

@@ -1,7 +1,7 @@
 //! Comparison of the implementations on many small automata and trees, good files and damaged ones.
 use crate::{
     automaton::{Automaton, Rule},
-    judges::Judges,
+    judges::{self, Judges},
     random::Random,
     shapes::{self, Shape},
     tree, Verdict,
@@ -25,7 +25,7 @@ impl Counts {
         match verdict {
             Verdict::Accepted => self.accepted += 1,
             Verdict::Other => self.other += 1,
-            Verdict::Refused => self.refused += 1,
+            Verdict::Refused(_) => self.refused += 1,
         }
     }
 }
@@ -75,10 +75,11 @@ fn compare_one(seed: u64, counts: &mut Counts) -> Result<(), String> {
         counts.automata_refused += 1;
         return Ok(());
     };
-    for _ in 0..TREES {
-        counts.add(judges.judge(&small_tree_file(&automaton, &mut random))?);
+    let trees: Vec<Vec<u8>> = (0..TREES).map(|_| small_tree_file(&automaton, &mut random)).collect();
+    for tree in &trees {
+        counts.add(judges.judge(tree)?);
     }
-    Ok(())
+    judges::tally(&file, &trees.concat()).map(|_| ())
 }
 
 /// About a third of the items, as a set.

@@ -1,7 +1,7 @@
 //! Blocks of 512 bytes: 508 bytes of content and a check of four bytes (document 01, "Blocks").
 use crate::{refused, Refusal};
 
-const BLOCK: usize = 512;
+pub const BLOCK: usize = 512;
 pub const CONTENT: usize = 508;
 
 fn word(bytes: &[u8]) -> u32 {

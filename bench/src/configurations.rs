@@ -140,7 +140,7 @@ impl Search<'_> {
 impl Judge for Configurations {
     fn judge(&self, file: &[u8]) -> Verdict {
         match tree::read(file, self.alphabet) {
-            Err(_) => Verdict::Refused,
+            Err(refusal) => Verdict::Refused(refusal),
             Ok(nodes) => Verdict::of(self.accepts(nodes.symbols())),
         }
     }

@@ -1,7 +1,13 @@
 //! All implementations side by side.
 #[cfg(feature = "engine")]
-use crate::engine::Engine;
-use crate::{configurations::Configurations, plain::Plain, tables::Tables, Judge, Refusal, Verdict};
+use crate::engine::{self, Engine};
+use crate::{
+    batch::{self, Tally},
+    configurations::Configurations,
+    plain::Plain,
+    tables::Tables,
+    Judge, Refusal, Verdict,
+};
 
 #[cfg(feature = "engine")]
 pub const NAMES: [&str; 4] = ["engine", "Rust tables", "Rust plain", "Rust configurations"];
@@ -14,24 +20,34 @@ pub const COUNT: usize = NAMES.len();
 pub const ENGINE: Option<usize> = if cfg!(feature = "engine") { Some(0) } else { None };
 pub const SAME: [usize; 2] = [COUNT - 3, COUNT - 2];
 
+/// The tally of an automaton's file on trees' files end to end: the automaton is prepared once.
+pub type TallyOf = fn(&[u8], &[u8]) -> Result<Tally, Refusal>;
+
+/// The tally of each implementation, in the order of their names.
+pub const TALLIES: [TallyOf; COUNT] = [
+    #[cfg(feature = "engine")]
+    engine::tally,
+    |automaton, trees| Ok(batch::tally(&Tables::prepare(automaton)?, trees)),
+    |automaton, trees| Ok(batch::tally(&Plain::prepare(automaton)?, trees)),
+    |automaton, trees| Ok(batch::tally(&Configurations::prepare(automaton)?, trees)),
+];
+
 /// One automaton, prepared by each implementation, in the order of their names.
-pub struct Judges(pub [Box<dyn Judge>; COUNT]);
+pub struct Judges([Box<dyn Judge>; COUNT]);
 
-/// A judge, or the number of the refusal.
-type Prepared = Result<Box<dyn Judge>, u32>;
+type Prepared = Result<Box<dyn Judge>, Refusal>;
 
-fn boxed<J: Judge + 'static>(prepared: Result<J, u32>) -> Prepared {
+fn boxed<J: Judge + 'static>(prepared: Result<J, Refusal>) -> Prepared {
     prepared.map(|judge| Box::new(judge) as Box<dyn Judge>)
 }
 
 fn prepare_all(file: &[u8]) -> [Prepared; COUNT] {
-    let number = |refusal: Refusal| refusal.number;
     [
         #[cfg(feature = "engine")]
         boxed(Engine::prepare(file)),
-        boxed(Tables::prepare(file).map_err(number)),
-        boxed(Plain::prepare(file).map_err(number)),
-        boxed(Configurations::prepare(file).map_err(number)),
+        boxed(Tables::prepare(file)),
+        boxed(Plain::prepare(file)),
+        boxed(Configurations::prepare(file)),
     ]
 }
 
@@ -45,7 +61,7 @@ fn agreed<T: Copy + PartialEq + std::fmt::Debug>(values: [T; COUNT], of: &str) -
 }
 
 impl Judges {
-    /// Prepares an automaton; nothing where all refuse it, by the same number.
+    /// Prepares an automaton; nothing where all refuse it, by the same number at the same place.
     pub fn prepare(file: &[u8]) -> Result<Option<Judges>, String> {
         let prepared = prepare_all(file);
         let refusals = prepared.each_ref().map(|one| one.as_ref().err().copied());
@@ -59,4 +75,9 @@ impl Judges {
     pub fn judge(&self, file: &[u8]) -> Result<Verdict, String> {
         agreed(self.0.each_ref().map(|judge| judge.judge(file)), "the verdict on a tree")
     }
+}
+
+/// The tally of trees' files end to end.
+pub fn tally(automaton: &[u8], trees: &[u8]) -> Result<Result<Tally, Refusal>, String> {
+    agreed(TALLIES.map(|tally| tally(automaton, trees)), "a tally")
 }

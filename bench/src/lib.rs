@@ -1,8 +1,9 @@
 //! Judging, the survey, the quick check and single in Rust, written from document 01 alone; and the measuring of judging and the
-//! survey: the engine beside these. One call takes the bytes of a tree's file and gives the verdict, the automaton having been
-//! prepared before; or the bytes of an automaton's file, and gives the survey's verdict and plan.
+//! survey: the engine beside these. One call takes the bytes of an automaton's file and of trees' files end to end, and gives the
+//! tally; or the bytes of an automaton's file, and gives the survey's verdict and plan.
 pub mod agreement;
 pub mod automaton;
+pub mod batch;
 pub mod blocks;
 pub mod configurations;
 #[cfg(feature = "engine")]
@@ -37,7 +38,7 @@ fn refused<T>(number: u32, place: usize) -> Result<T, Refusal> {
 pub enum Verdict {
     Accepted,
     Other,
-    Refused,
+    Refused(Refusal),
 }
 
 impl Verdict {

@@ -114,7 +114,7 @@ impl Plain {
 impl Judge for Plain {
     fn judge(&self, file: &[u8]) -> Verdict {
         match tree::read(file, self.alphabet) {
-            Err(_) => Verdict::Refused,
+            Err(refusal) => Verdict::Refused(refusal),
             Ok(nodes) => Verdict::of(self.accepts(nodes.symbols())),
         }
     }

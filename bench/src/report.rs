@@ -10,7 +10,9 @@ fn ratio(micros: [f64; COUNT], other: usize) -> Option<f64> {
 }
 
 pub fn print(rows: &[Row]) {
-    println!("microseconds a tree (4,095 nodes, 24 states, 512 rules), best of {ROUNDS} rounds, mean over the trees:");
+    println!(
+        "microseconds a tree (4,095 nodes, 24 states, 512 rules) in batches of one automaton, best of {ROUNDS} rounds:"
+    );
     print_head();
     for row in rows {
         print_line(row.name, &format!("{}/{}", row.accepted, row.trees), row.micros);

@@ -215,7 +215,7 @@ impl Tables {
 impl Judge for Tables {
     fn judge(&self, file: &[u8]) -> Verdict {
         match tree::read(file, self.alphabet) {
-            Err(_) => Verdict::Refused,
+            Err(refusal) => Verdict::Refused(refusal),
             Ok(nodes) => Verdict::of(self.accepts(nodes.symbols())),
         }
     }

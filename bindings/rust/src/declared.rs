@@ -6,6 +6,9 @@ use crate::Tally;
 /// The three numbers told with an answer.
 pub type Told = [usize; 3];
 
+/// The most bytes that a report has.
+const REPORT: usize = 357;
+
 extern "C" {
     fn engine_judge(
         automaton: *const u8,
@@ -19,6 +22,21 @@ extern "C" {
     fn engine_single(file: *const u8, length: usize, told: *mut Told) -> u32;
     fn engine_count(tally: *mut [u32; 3], outcome: u32, told: *mut Told) -> u32;
     fn engine_percent(accepted: u32, other: u32) -> u32;
+    fn engine_tally(
+        automaton: *const u8,
+        automaton_length: usize,
+        trees: *const u8,
+        trees_length: usize,
+        tally: *mut [u32; 3],
+        told: *mut Told,
+    ) -> u32;
+    fn engine_report(
+        automaton: *const u8,
+        automaton_length: usize,
+        trees: *const u8,
+        trees_length: usize,
+        text: *mut [u8; REPORT],
+    ) -> usize;
 }
 
 /// The number answered, and what was told with it.
@@ -50,4 +68,16 @@ pub fn count(tally: &mut [u32; 3], outcome: u32) -> (u32, Told) {
 
 pub fn percent(tally: Tally) -> u32 {
     unsafe { engine_percent(tally.accepted, tally.other) }
+}
+
+pub fn tally(automaton: &[u8], trees: &[u8], tally: &mut [u32; 3]) -> (u32, Told) {
+    telling(|told| unsafe {
+        engine_tally(automaton.as_ptr(), automaton.len(), trees.as_ptr(), trees.len(), tally, told)
+    })
+}
+
+pub fn report(automaton: &[u8], trees: &[u8]) -> Vec<u8> {
+    let mut text = [0; REPORT];
+    let length = unsafe { engine_report(automaton.as_ptr(), automaton.len(), trees.as_ptr(), trees.len(), &mut text) };
+    text[..length].to_vec()
 }

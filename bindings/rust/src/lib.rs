@@ -1,5 +1,6 @@
-//! The engine for tree-walking automata, from its static library: judging, the survey, the quick check, single, and the tally. Files are
-//! given as their bytes; every input is answered, a bad file by its refusal.
+//! The engine for tree-walking automata, from its static library: judging, the survey, the quick check, single, the tally, and the report.
+//! Files are given as their bytes; every input is answered, a bad file by its refusal. Calls share nothing, and may be made by any number
+//! of threads; `bindings/engine.h` says how much stack each takes.
 mod declared;
 
 use declared::Told;
@@ -121,10 +122,10 @@ pub fn single(file: &[u8]) -> Result<bool, Refusal> {
     }
 }
 
-/// Counts one outcome more; a tally that is full stays as it was, and refusal 14 is the answer.
-pub fn count(tally: &mut Tally, outcome: Outcome) -> Result<(), Refusal> {
+/// A call on the three numbers of a tally, which answers 0 or a refusal.
+fn on_numbers(tally: &mut Tally, call: impl FnOnce(&mut [u32; 3]) -> (u32, [usize; 3])) -> Result<(), Refusal> {
     let mut numbers = [tally.accepted, tally.other, tally.refused];
-    let answer = declared::count(&mut numbers, outcome as u32);
+    let answer = call(&mut numbers);
     let [accepted, other, refused] = numbers;
     *tally = Tally { accepted, other, refused };
     match answer {
@@ -133,7 +134,24 @@ pub fn count(tally: &mut Tally, outcome: Outcome) -> Result<(), Refusal> {
     }
 }
 
+/// Counts one outcome more; a tally that is full stays as it was, and refusal 14 is the answer.
+pub fn count(tally: &mut Tally, outcome: Outcome) -> Result<(), Refusal> {
+    on_numbers(tally, |numbers| declared::count(numbers, outcome as u32))
+}
+
 /// The percent of accepted trees among those judged, to the nearest, half upward; 0 where none was judged.
 pub fn percent(tally: Tally) -> u32 {
     declared::percent(tally)
+}
+
+/// Counts trees' files end to end, by an automaton's file, onto a tally. (Document 01's batch: a file's first block gives its length;
+/// refusals 1 to 4, and trees that stop inside a file, count one refused and are the end; a full tally is the end.) Where the automaton's
+/// file is refused the tally stays as it was.
+pub fn tally(automaton: &[u8], trees: &[u8], tally: &mut Tally) -> Result<(), Refusal> {
+    on_numbers(tally, |numbers| declared::tally(automaton, trees, numbers))
+}
+
+/// The report's text on an automaton's file and trees' files end to end: document 01's lines, in ASCII.
+pub fn report(automaton: &[u8], trees: &[u8]) -> Vec<u8> {
+    declared::report(automaton, trees)
 }

@@ -58,7 +58,7 @@ fn judged(automaton: &[u8], file: &[u8]) -> Result<Verdict, Refusal> {
     match in_automaton(Configurations::prepare(automaton))?.judge(file) {
         bench::Verdict::Accepted => Ok(Verdict::Accepted),
         bench::Verdict::Other => Ok(Verdict::Other),
-        bench::Verdict::Refused => unreachable!("the tree was read"),
+        bench::Verdict::Refused(_) => unreachable!("the tree was read"),
     }
 }
 

@@ -2,6 +2,7 @@
 use crate::Header;
 use crate::Rule;
 use crate::Scope;
+use algorithms::is_branch;
 use model::Move;
 use model::Place;
 use model::Side;
@@ -32,7 +33,7 @@ pub enum RuleBytes {
 }
 
 // The places that a byte stands for.
-pub fn sort_place(b: u8) -> PlaceByte
+fn sort_place(b: u8) -> PlaceByte
     ensures { λ r. ⌜ r ≡ sortPlace b ⌝ }
 {
     match b {
@@ -45,7 +46,7 @@ pub fn sort_place(b: u8) -> PlaceByte
 }
 
 // The move that a byte stands for.
-pub fn sort_move(b: u8) -> MoveByte
+fn sort_move(b: u8) -> MoveByte
     ensures { λ r. ⌜ r ≡ sortMove b ⌝ }
 {
     match b {
@@ -109,10 +110,11 @@ fn is_misplaced(branches: u32, rule: Rule) -> bool
 {
     let step = rule.step;
     let scope = rule.scope;
+    let symbol = rule.symbol;
     match step {
         Move::Stay => false,
         Move::Up => may_be_root(scope),
-        Move::Down(_) => !relation::set::contains(branches, rule.symbol.0),
+        Move::Down(_) => !is_branch(branches, symbol),
     }
 }
 

@@ -8,16 +8,20 @@ use borrow.Author.Tests.{eqb-true, eqb-false, ltb-true, ltb-false, eq-eqb, ne-eq
 use lib.Dec.{eqb, ltb, leb}
 use lib.ListN.{length, getD, take, drop, length-drop, drop-of-length-le}
 use lib.Seq.{take-all, drop-drop, drop-length}
+use Rattle.blocks.specs.Blocks.{content}
 use Rattle.refusal.specs.declared.Check.{Check}
+use Rattle.refusal.specs.declared.Refusal.{Refusal}
 use Rattle.refusal.proofs.Passed.{clash}
+use Rattle.automaton.specs.File.{parsed}
 use Rattle.automaton.specs.declared.Header.{Header}
+use Rattle.automaton.specs.declared.file.Parsed.{Parsed}
 use Rattle.membership.specs.Judged.{judgedBy}
 use Rattle.membership.specs.declared.Answer.{Answer}
 use Rattle.tally.specs.Tally.{countedUp}
 use Rattle.tally.specs.declared.Tally.{Tally}
 use Rattle.tally.specs.declared.Tallied.{Tallied}
 use Rattle.tally.specs.declared.Outcome.{Outcome}
-use Rattle.batch.specs.Batch.{blocksOf, fileBlocks, firstLength, judgedTurn, cutOff, turnBy, turnOf, passes, Next, taken, nextIn, restOf, goingOn, batchWithin, batchOf}
+use Rattle.batch.specs.Batch.{blocksOf, fileBlocks, firstLength, judgedTurn, cutOff, turnBy, turnOf, passes, Next, taken, nextIn, restOf, goingOn, batchWithin, batchOf, talliedOf}
 use Rattle.batch.specs.declared.Turn.{Turn}
 
 -- ---- the length of a file
@@ -169,3 +173,14 @@ pub turn-on : (h : Header) (p : List ℕ) (t : Tally) (o : Outcome) (more : Bool
 turn-on h p t o more s at at′ turn counted c place is =
     let is′ : turn ≡ cond (passes (countedUp t o .check) && more) (turnOf h p (restOf (drop at s))) Turn.End = is ∙ rw (c, place) refl in
     carried-on h p t o more (restOf (drop at s)) turn is′ ∙ rw (c, place) refl
+
+-- ---- over an automaton's file
+
+pub tallied-refused : (w trees : List ℕ) (t : Tally) (r : Refusal) → parsed w ≡ Parsed.Refused r → record { tally = t; check = Check.Refused r } ≡ talliedOf w trees t
+unfolding talliedOf
+tallied-refused w trees t r e = rw e refl
+
+pub tallied-read : (w trees : List ℕ) (t u : Tally) (h : Header) → parsed w ≡ Parsed.Read h → u ≡ batchOf h (content w) t trees
+    → record { tally = u; check = Check.Passed } ≡ talliedOf w trees t
+unfolding talliedOf
+tallied-read w trees t u h e f = rw (e, f) refl

@@ -1,5 +1,6 @@
 -- A batch (document 01, "Tally and report"): trees' files end to end, each counted, until the input or the batch ends. The quotations are of
--- that section. Interface: `fileBlocks`, `firstLength`, `turnOf`, `nextIn`, `batchOf`, `nothingCounted`.
+-- that section. Interface: `fileBlocks`, `firstLength`, `turnOf`, `nextIn`, `batchOf`, `nothingCounted`,
+-- `talliedOf`.
 use mathlib.Core.Bool.{Bool, true, false, not, cond, _&&_}
 use mathlib.Core.List.{List}
 use Prim.Native.Nat.{ℕ, zero, suc, _+_, _*_}
@@ -7,11 +8,15 @@ use lib.ListN.{length, getD, take, drop}
 use lib.Dec.{eqb, ltb, leb}
 use Rattle.refusal.specs.Lines.{blocksNeeded}
 use Rattle.refusal.specs.declared.Check.{Check}
+use Rattle.blocks.specs.Blocks.{content}
+use Rattle.automaton.specs.File.{parsed}
 use Rattle.automaton.specs.declared.Header.{Header}
+use Rattle.automaton.specs.declared.file.Parsed.{Parsed}
 use Rattle.membership.specs.Judged.{judgedBy}
 use Rattle.membership.specs.declared.Answer.{Answer}
 use Rattle.tally.specs.Tally.{countedUp}
 use Rattle.tally.specs.declared.Tally.{Tally}
+use Rattle.tally.specs.declared.Tallied.{Tallied}
 use Rattle.tally.specs.declared.Outcome.{Outcome}
 use Rattle.batch.specs.declared.Turn.{Turn}
 
@@ -104,3 +109,13 @@ batchOf h p t s = batchWithin (suc (length s)) h p t s
 
 abbrev pub nothingCounted : Tally
 nothingCounted = record { accepted = 0; other = 0; refused = 0 }
+
+-- ---- over an automaton's file
+
+-- the tally onto t, by an automaton's file w that reads; or t as it was, and the refusal
+abbrev pub talliedRead : Parsed → (w trees : List ℕ) → Tally → Tallied
+talliedRead (Parsed.Read h) w trees t = record { tally = batchOf h (content w) t trees; check = Check.Passed }
+talliedRead (Parsed.Refused r) w trees t = record { tally = t; check = Check.Refused r }
+
+unfoldable pub talliedOf : (w trees : List ℕ) → Tally → Tallied
+talliedOf w trees t = talliedRead (parsed w) w trees t

@@ -1,4 +1,6 @@
-// A batch: the files of trees, end to end, and their tally.
+// A batch: the files of trees, end to end, and their tally. `file` has it over an automaton's file.
+pub mod file;
+
 use automaton::Header;
 use membership::Answer;
 use membership::judge_file;

@@ -1,6 +1,5 @@
--- The files of document 01's examples, byte by byte, and case (k).
+-- The files of document 01's board, byte by byte.
 use Prim.Native.Nat.{ℕ, _-_, _/_, _%_}
-use mathlib.Core.Path.{_≡_, refl}
 use mathlib.Core.List.{List, [], _∷_, _++_}
 use lib.ListN.{length, replicate}
 use Rattle.blocks.specs.Blocks.{wordSum, blockCheck}
@@ -45,8 +44,3 @@ fileJ = sealed (walker 1 1 0 1 1 1 [])
 unfoldable pub letter : List ℕ → List ℕ
 unfolding sealed
 letter symbols = sealed (84 ∷ 0 ∷ length symbols ∷ 0 ∷ symbols)
-
--- (k) the letter 2 0 1 has check 262231
-pub check-k : blockCheck (unfold letter in letter (2 ∷ 0 ∷ 1 ∷ [])) 0 ≡ 262231
-unfolding letter sealed blockCheck wordSum
-check-k = refl

@@ -1,6 +1,3 @@
--- The lettered cases of document 01: two tables, and one proof over the rows of each.
+-- The board of document 01: its files, and the table of its rows (a) to (k), with what each says. proofs/Right has the proof over the rows.
 pub mod Files
-pub mod Rows
-pub mod Right
-pub mod Surveys
-pub mod SurveysRight
+pub mod Board

@@ -7,8 +7,8 @@ use mathlib.Core.List.{List, [], _∷_, _++_, map-append, append-assoc}
 use native.Mathlib.Omega.{arith}
 use borrow.Author.Tests.{ltb-false}
 use lib.Dec.{ltb}
-use lib.ListN.{length, length-map, length-append, set, take, drop}
-use lib.Seq.{sets-eq, take-at, drop-at, drop-drop}
+use lib.ListN.{length, length-map, length-append, take, drop}
+use lib.Seq.{take-at, drop-at, drop-drop}
 use Rattle.model.specs.Lists.{countFrom}
 use Rattle.model.specs.Saturation as saturation
 use Rattle.model.specs.Saturation.{WitnessRow}
@@ -23,13 +23,6 @@ use Rattle.emptiness.specs.Ends.{verdictOf, FoundFew}
 use Rattle.emptiness.specs.declared.Survey.{Survey}
 use Rattle.emptiness.specs.declared.rows.Origin.{Origin}
 use Rattle.emptiness.specs.declared.rounds.Verdict.{Verdict}
-
--- three bytes stored one after the other
-pub put-bytes : (at s l r : ℕ) (t : List ℕ) → at + 3 ≤ length t → set (set (set t at s) (at + 1) l) (at + 2) r ≡ take at t ++ s ∷ l ∷ r ∷ drop (at + 3) t
-put-bytes at s l r t h =
-    let one : at + 1 ≡ suc at = omega arith in
-    let two : at + 2 ≡ suc (suc at) = omega arith in
-    rw (one, two) (sets-eq (s ∷ l ∷ r ∷ []) t at h ∙ append-assoc (take at t) (s ∷ l ∷ r ∷ []) (drop (at + 3) t))
 
 pub bytes-length : (p : List WitnessRow) → length (planBytes p) ≡ 3 * length p
 bytes-length [] = refl

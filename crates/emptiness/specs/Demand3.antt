@@ -3,10 +3,10 @@
 use mathlib.Core.Path.{_≡_}
 use mathlib.Core.Logic.{_↔_}
 use mathlib.Core.List.{List, _++_}
-use Prim.Native.Nat.{ℕ, _*_, _≤_}
+use Prim.Native.Nat.{ℕ, suc, _*_, _≤_}
 use lib.ListN.{length, drop}
 use Rattle.model.specs.Trees.{Tree}
-use Rattle.model.specs.Counting.{Over, FoundAt, OpenAt, EmptyAt}
+use Rattle.model.specs.Counting.{Over, Counts, FoundAt, OpenAt, EmptyAt}
 use Rattle.model.specs.Saturation.{WitnessRow, Found}
 use Rattle.model.specs.Demand.{WitnessFor}
 use Rattle.model.specs.Approximation.{Sets, Top, Least}
@@ -42,6 +42,10 @@ AtMost64 (Survey.Refused r) = ⊥
 
 -- of an automaton that was read, and a buffer of 195 bytes or more
 pub record Surveys (A : Automaton) (before : List ℕ) (o : Outcome) : Type 0 where
+  -- "N(h) counts the trees of height at most h, alike ones once, and N(-1) is 0." Each is one number: what is counted is N(h), and nothing else.
+  pub N : ℕ → ℕ
+  pub counts : (h n : ℕ) → Counts (alphabetOf A) (languageOf A) (suc h) n ↔ (n ≡ N h)
+  pub counts-none : (n : ℕ) → Counts (alphabetOf A) (languageOf A) 0 n ↔ (n ≡ 0)
   -- "The survey says Found h exactly when a tree of height h passes, none lower does and N(h-1) is at most 64."
   pub found : (h : ℕ) → ((rows : ℕ) × (o .answer ≡ Survey.Found h rows)) ↔ FoundAt (alphabetOf A) (languageOf A) 64 h
   pub plan : (h rows : ℕ) → o .answer ≡ Survey.Found h rows → Planned A h rows before (o .buffer)

@@ -2,17 +2,19 @@
 use mathlib.Core.Path.{_≡_, refl, sym, ap}
 use mathlib.Core.Logic.{_↔_}
 use mathlib.Core.Bool.{Bool, true, false}
-use mathlib.Core.List.{List, _++_}
-use Prim.Native.Nat.{ℕ, _*_}
+use mathlib.Core.List.{List, [], _++_, List·Memᴰ·not-nil}
+use Prim.Native.Nat.{ℕ, suc, _*_}
+use native.Mathlib.Omega.{arith}
 use borrow.Author.Tests.{le-ltb}
 use lib.Dec.{T}
 use lib.ListN.{length, drop}
+use Rattle.model.specs.Counting.{Counts}
 use Rattle.model.specs.Saturation.{WitnessRow, Verdict, Found, Open, Empty, Unended}
 use Rattle.model.specs.Demand.{Told, Correct}
 use Rattle.algorithms.specs.Automaton.{Automaton, Proper, alphabetOf}
 use Rattle.algorithms.specs.Saturate.{languageOf, saturationOf}
 use Rattle.algorithms.specs.Approximate.{clear?}
-use Rattle.algorithms.specs.Theorems.{demand-3}
+use Rattle.algorithms.specs.Theorems.{demand-3, count-exists, count-unique}
 use Rattle.blocks.specs.Blocks.{content}
 use Rattle.refusal.proofs.Passed.{clash}
 use Rattle.transitions.specs.Transitions.{automatonOf}
@@ -64,16 +66,37 @@ bytes-written : (v : Verdict) (h rows : ℕ) (p : List WitnessRow) (before : Lis
     → written v before ≡ planBytes p ++ drop (3 * rows) before
 bytes-written v h rows p before e f = rw (e, f)
 
+-- ---- counts
+
+module _ (A : Automaton) (P : Proper A) where
+  -- what counts is the one number that does
+  counts-is : (k m : ℕ) → Counts (alphabetOf A) (languageOf A) k m → (n : ℕ) → Counts (alphabetOf A) (languageOf A) k n ↔ (n ≡ m)
+  counts-is k m c n = (λ d. count-unique A P d c, λ e. rw e c)
+
+  -- no tree has a height below 0
+  none-counted : Counts (alphabetOf A) (languageOf A) 0 0
+  none-counted =
+      record {
+        trees = [];
+        size = refl;
+        inside = λ t m. absurd (List·Memᴰ·not-nil m);
+        inequivalent = tt;
+        all = λ t over low. absurd (omega arith);
+      }
+
 -- ---- a correct verdict, told and written
 
-module _ (A : Automaton) (before : List ℕ) (c : Correct (alphabetOf A) (languageOf A) 64 (saturationOf A)) where
+module _ (A : Automaton) (P : Proper A) (before : List ℕ) where
+  correct : Correct (alphabetOf A) (languageOf A) 64 (saturationOf A)
+  correct = demand-3 A P .saturation
+
   planned : (h rows : ℕ) → told (saturationOf A) ≡ Survey.Found h rows → Planned A h rows before (written (saturationOf A) before)
   planned h rows e =
       let f = found-back (saturationOf A) h rows e in
       record {
         plan = f .0;
         is-surveys = f .1;
-        witness = c .witness h (f .0) (f .1);
+        witness = correct .witness h (f .0) (f .1);
         rows-told = f .2;
         bytes = bytes-written (saturationOf A) h rows (f .0) before (f .1) (f .2);
       }
@@ -81,14 +104,17 @@ module _ (A : Automaton) (before : List ℕ) (c : Correct (alphabetOf A) (langua
   surveys : Surveys A before (outcome (told (saturationOf A)) (written (saturationOf A) before))
   surveys =
       record {
+        N = λ h. count-exists A P (suc h) .0;
+        counts = λ h. counts-is A P (suc h) _ (count-exists A P (suc h) .1);
+        counts-none = counts-is A P 0 0 (none-counted A P);
         found = λ h. (
-          λ x. let f = found-back (saturationOf A) h (x .0) (x .1) in c .says-found h .0 (f .0, f .1),
-          λ a. let f = c .says-found h .1 a in (length (f .0), ap told (f .1)),
+          λ x. let f = found-back (saturationOf A) h (x .0) (x .1) in correct .says-found h .0 (f .0, f .1),
+          λ a. let f = correct .says-found h .1 a in (length (f .0), ap told (f .1)),
         );
         plan = planned;
-        open-says = λ h. (λ e. c .says-open h .0 (open-back (saturationOf A) (c .told) h e), λ a. ap told (c .says-open h .1 a));
-        empty = λ h. (λ e. c .says-empty h .0 (empty-back (saturationOf A) h e), λ a. ap told (c .says-empty h .1 a));
-        height = height-told (saturationOf A) (c .told);
+        open-says = λ h. (λ e. correct .says-open h .0 (open-back (saturationOf A) (correct .told) h e), λ a. ap told (correct .says-open h .1 a));
+        empty = λ h. (λ e. correct .says-empty h .0 (empty-back (saturationOf A) h e), λ a. ap told (correct .says-empty h .1 a));
+        height = height-told (saturationOf A) (correct .told);
         kept = buffer-kept (saturationOf A) before;
       }
 
@@ -96,7 +122,7 @@ pub surveyed-right : (w before : List ℕ) → Demand3 w before (surveyed w befo
 unfolding surveyed bufferCheck
 surveyed-right w before h read long =
     rw (read, le-ltb (length before) 195 long)
-    (surveys (automatonOf h (content w)) before (demand-3 (automatonOf h (content w)) (file-proper w h read) .saturation))
+    (surveys (automatonOf h (content w)) (file-proper w h read) before)
 
 -- ---- a test that is told as Clear or Unsure, against what it tests
 

@@ -3,13 +3,13 @@
 use crate::class::Class;
 use crate::class::leaf_class;
 use crate::class::node_class;
+use algorithms::is_branch;
 use automaton::Header;
 use model::Place;
 use model::Symbol;
 use overloops::leaf_loops;
 use overloops::node_loops;
 use relation::Relation;
-use relation::set::contains;
 ghost use mathlib.Core.Path.{_≡_};
 ghost use Prim.Native.Nat.{_≤_};
 ghost use lib.ListN.{length};
@@ -44,7 +44,7 @@ fn leaf_sets(leaves: &[u32], header: Header) -> Class
         right: Relation::empty(),
     };
     for symbol in 0..header.symbols {
-        if !contains(header.branches, symbol) {
+        if !is_branch(header.branches, Symbol(symbol)) {
             sets = join(sets, leaf_class(leaves, Symbol(symbol)));
         }
     }
@@ -60,7 +60,7 @@ fn formed(table: &[u32], header: Header, sets: Class) -> Class
     let states = header.states as usize;
     let mut more = sets;
     for symbol in 0..header.symbols {
-        if contains(header.branches, symbol) {
+        if is_branch(header.branches, Symbol(symbol)) {
             more = join(more, node_class(table, states, Symbol(symbol), sets, sets));
         }
     }
@@ -95,7 +95,7 @@ fn root_loops(table: &[u32], header: Header, sets: Class) -> Relation
     let right = sets.right;
     let mut loops = Relation::empty();
     for symbol in 0..header.symbols {
-        if contains(header.branches, symbol) {
+        if is_branch(header.branches, Symbol(symbol)) {
             loops = loops.join(node_loops(table, states, Symbol(symbol), Place::Root, left, right));
         } else {
             loops = loops.join(leaf_loops(table, states, Symbol(symbol), Place::Root));

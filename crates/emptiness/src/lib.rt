@@ -1,11 +1,11 @@
 // Emptiness: whether an automaton accepts any tree. `file` has the two public functions, document 01's survey and quick check; specs/ has the
 // definitions of their answers, and the proof that these meet demand 3.
-pub mod approximation;
-pub mod class;
+mod approximation;
+mod class;
 pub mod file;
-pub mod plan;
-pub mod rounds;
-pub mod rows;
+mod plan;
+mod rounds;
+mod rows;
 
 use refusal::Refusal;
 

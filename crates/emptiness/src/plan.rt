@@ -1,5 +1,6 @@
 // The plan of a survey, written into a lent buffer: three bytes a row.
 use crate::rows::Origin;
+use crate::rows::Row;
 use crate::rows::origin_at;
 ghost use mathlib.Core.Path.{_≡_};
 ghost use mathlib.Core.List.{[], _∷_, _++_};
@@ -8,15 +9,16 @@ ghost use lib.ListN.{length, take, drop};
 ghost use Rattle.emptiness.specs.Stored.{originOf, originsIn};
 ghost use Rattle.emptiness.specs.Surveyed.{planBytes};
 
-// Writes row i.
-fn put_row(plan: &mut [u8], i: usize, row: Origin)
-    requires { ⌜ (i ≤ 64) × (195 ≤ length (now plan)) ⌝ }
-    ensures { λ _. ⌜ now (plan .exit) ≡ take (i * 3) (now (plan .entry)) ++ row .symbol .0 ∷ row .left .0 ∷ row .right .0 ∷ drop (i * 3 + 3) (now (plan .entry)) ⌝ }
+// Writes a row.
+fn put_row(plan: &mut [u8], row: Row, origin: Origin)
+    requires { ⌜ (row .0 ≤ 64) × (195 ≤ length (now plan)) ⌝ }
+    ensures { λ _. ⌜ now (plan .exit) ≡ take (row .0 * 3) (now (plan .entry)) ++ origin .symbol .0 ∷ origin .left .0 ∷ origin .right .0 ∷ drop (row .0 * 3 + 3) (now (plan .entry)) ⌝ }
 {
-    let at = i * 3;
-    plan[at] = row.symbol.0;
-    plan[at + 1] = row.left.0;
-    plan[at + 2] = row.right.0;
+    let bytes = [origin.symbol.0, origin.left.0, origin.right.0];
+    let at = row.0 as usize * 3;
+    for k in 0..3 {
+        plan[at + k] = bytes[k];
+    }
 }
 
 // Writes the first n rows, and then one more.
@@ -25,7 +27,8 @@ pub fn write_plan(rows: &[u32], n: usize, last: Origin, plan: &mut [u8])
     ensures { λ _. ⌜ now (plan .exit) ≡ planBytes (originsIn (now (rows .entry)) n ++ originOf last ∷ []) ++ drop (3 * (n + 1)) (now (plan .entry)) ⌝ }
 {
     for i in 0..n {
-        put_row(plan, i, origin_at(rows, i));
+        let row = Row(i as u8);
+        put_row(plan, row, origin_at(rows, row));
     }
-    put_row(plan, n, last);
+    put_row(plan, Row(n as u8), last);
 }

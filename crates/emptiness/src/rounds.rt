@@ -8,9 +8,9 @@ use crate::rows::Origin;
 use crate::rows::Row;
 use crate::rows::class_at;
 use crate::rows::keep;
+use algorithms::is_branch;
 use automaton::Header;
 use model::Symbol;
-use relation::set::contains;
 ghost use mathlib.Core.Path.{_≡_};
 ghost use mathlib.Core.List.{List, [], _∷_, map, flatMap};
 ghost use Prim.Native.Nat.{ℕ, _-_, _<_, _≤_};
@@ -131,11 +131,11 @@ fn try_rights(
     Tried::Kept(n)
 }
 
-// The first right row to try beside a left row: beside an old row only the new ones are tried.
-fn first_right(left: usize, old: usize) -> usize
-    ensures { λ r. ⌜ (r ≤ old) × ((n : ℕ) → rights (ltb left old) old n ≡ countFrom r (n - r)) ⌝ }
+// Where the range of right rows to try beside a left row begins: beside an old row only the new ones are tried.
+fn first_right(left: Row, old: usize) -> usize
+    ensures { λ r. ⌜ (r ≤ old) × ((n : ℕ) → rights (ltb (left .0) old) old n ≡ countFrom r (n - r)) ⌝ }
 {
-    if left < old { old } else { 0 }
+    if (left.0 as usize) < old { old } else { 0 }
 }
 
 // Tries a branch symbol over the rows below `to`, of which those below `old` are old.
@@ -156,8 +156,9 @@ fn try_lefts(
 {
     let mut n = kept;
     for left in 0..to {
-        let from = first_right(left, old);
-        match try_rights(table, header, symbol, Row(left as u8), from, to, rows, n) {
+        let row = Row(left as u8);
+        let from = first_right(row, old);
+        match try_rights(table, header, symbol, row, from, to, rows, n) {
             Tried::Accepted(origin) => return Tried::Accepted(origin),
             Tried::Kept(m) => n = m,
         }
@@ -181,7 +182,7 @@ fn try_if_branch(
         → (base before : List (Candidate (algebraOf A))) → Holds A base before kept (now (rows .entry)) → length base ≡ to
         → Tries A base before (flatMap (overRows (algebraOf A) base old to) (consIf (eqb (bit (header .branches) (symbol .0)) 1) (symbol .0) [])) (now (rows .exit)) r) ⌝ }
 {
-    if contains(header.branches, symbol.0) {
+    if is_branch(header.branches, symbol) {
         try_lefts(table, header, symbol, old, to, rows, kept)
     } else {
         Tried::Kept(kept)
@@ -220,7 +221,7 @@ fn try_if_leaf(
         → (base before : List (Candidate (algebraOf A))) → Holds A base before kept (now (rows .entry))
         → Tries A base before (flatMap (λ σ. leafCandidate (algebraOf A) σ ∷ []) (consIf (eqb (bit (header .branches) (symbol .0)) 0) (symbol .0) [])) (now (rows .exit)) r) ⌝ }
 {
-    if contains(header.branches, symbol.0) {
+    if is_branch(header.branches, symbol) {
         Tried::Kept(kept)
     } else {
         try_leaf(table, leaves, header, symbol, rows, kept)

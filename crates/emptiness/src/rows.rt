@@ -38,12 +38,12 @@ pub fn class_at(rows: &[u32], row: Row) -> Class
     }
 }
 
-// How the tree of row i is built.
-pub fn origin_at(rows: &[u32], i: usize) -> Origin
-    requires { ⌜ (length (now rows) ≡ 3264) × (i < 64) ⌝ }
-    ensures { λ r. ⌜ originOf r ≡ originIn (now (rows .entry)) i ⌝ }
+// How the tree of a row is built.
+pub fn origin_at(rows: &[u32], row: Row) -> Origin
+    requires { ⌜ (length (now rows) ≡ 3264) × (row .0 < 64) ⌝ }
+    ensures { λ r. ⌜ originOf r ≡ originIn (now (rows .entry)) (row .0) ⌝ }
 {
-    let at = i * 51;
+    let at = row.0 as usize * 51;
     Origin {
         symbol: Symbol((rows[at] % 256) as u8),
         left: Row((rows[at + 1] % 256) as u8),
@@ -51,12 +51,12 @@ pub fn origin_at(rows: &[u32], i: usize) -> Origin
     }
 }
 
-// Whether a class, given by its two relations, is that of row i.
-fn same_at(rows: &[u32], i: usize, left: &[u32], right: &[u32]) -> bool
-    requires { ⌜ (length (now rows) ≡ 3264) × (i < 64) × (length (now left) ≡ 24) × (length (now right) ≡ 24) ⌝ }
-    ensures { λ r. ⌜ r ≡ sameParts (parts (now (left .entry)) (now (right .entry))) (classIn (now (rows .entry)) i) ⌝ }
+// Whether a class, given by its two relations, is that of a row.
+fn same_at(rows: &[u32], row: Row, left: &[u32], right: &[u32]) -> bool
+    requires { ⌜ (length (now rows) ≡ 3264) × (row .0 < 64) × (length (now left) ≡ 24) × (length (now right) ≡ 24) ⌝ }
+    ensures { λ r. ⌜ r ≡ sameParts (parts (now (left .entry)) (now (right .entry))) (classIn (now (rows .entry)) (row .0)) ⌝ }
 {
-    let at = i * 51;
+    let at = row.0 as usize * 51;
     let middle = at + 27;
     if same_rows(left, &rows[at + 3..middle]) {
         same_rows(right, &rows[middle..at + 51])
@@ -71,7 +71,7 @@ fn is_known(rows: &[u32], n: usize, left: &[u32], right: &[u32]) -> bool
     ensures { λ r. ⌜ KnownIn r (now (rows .entry)) n (parts (now (left .entry)) (now (right .entry))) ⌝ }
 {
     for i in 0..n {
-        if same_at(rows, i, left, right) {
+        if same_at(rows, Row(i as u8), left, right) {
             return true;
         }
     }
@@ -88,12 +88,12 @@ fn put_origin(rows: &mut [u32], at: usize, origin: Origin)
     rows[at + 2] = origin.right.0 as u32;
 }
 
-// Writes row i.
-fn store(rows: &mut [u32], i: usize, origin: Origin, class: Class)
-    requires { ⌜ (length (now rows) ≡ 3264) × (i < 64) ⌝ }
-    ensures { λ _. ⌜ Written i (originOf origin) (partsIn class) (now (rows .entry)) (now (rows .exit)) ⌝ }
+// Writes a row.
+fn store(rows: &mut [u32], row: Row, origin: Origin, class: Class)
+    requires { ⌜ (length (now rows) ≡ 3264) × (row .0 < 64) ⌝ }
+    ensures { λ _. ⌜ Written (row .0) (originOf origin) (partsIn class) (now (rows .entry)) (now (rows .exit)) ⌝ }
 {
-    let at = i * 51;
+    let at = row.0 as usize * 51;
     put_origin(rows, at, origin);
     put_rows(rows, at + 3, class.left);
     put_rows(rows, at + 27, class.right);
@@ -117,6 +117,6 @@ pub fn keep(rows: &mut [u32], n: usize, origin: Origin, class: Class) -> usize
     if n == 64 {
         return 65;
     }
-    store(rows, n, origin, class);
+    store(rows, Row(n as u8), origin, class);
     n + 1
 }

@@ -14,6 +14,9 @@ ghost use Rattle.emptiness.specs.Checked.{checked};
 ghost use Rattle.emptiness.specs.Demand3.{Demand3, Demand3Quick};
 ghost use Rattle.transitions.specs.Single.{singleOf};
 ghost use Rattle.tally.specs.Tally.{countedUp, percentOf};
+ghost use Rattle.batch.specs.Batch.{talliedOf};
+ghost use Rattle.text.specs.Appended.{Appended};
+ghost use Rattle.wording.specs.Report.{reportOf};
 
 // Whether an automaton's file accepts a tree's file.
 pub fn judge(automaton: &[u8], tree: &[u8]) -> Answer
@@ -59,4 +62,18 @@ pub fn percent(tally: Tally) -> u32
     ensures { λ r. ⌜ r ≡ percentOf tally ⌝ }
 {
     tally::percent(tally)
+}
+
+// The tally of trees' files end to end, by an automaton's file, onto a tally. Where the automaton's file is refused the tally is as it was.
+pub fn tally(automaton: &[u8], trees: &[u8], before: Tally) -> Tallied
+    ensures { λ r. ⌜ r ≡ talliedOf (now (automaton .entry)) (now (trees .entry)) before ⌝ }
+{
+    batch::file::tally(automaton, trees, before)
+}
+
+// The report on an automaton's file and on trees' files end to end, at the front of the buffer; its length. Later bytes stay.
+pub fn report(automaton: &[u8], trees: &[u8], text: &mut [u8; 357]) -> usize
+    ensures { λ r. ⌜ Appended (now (text .entry)) 0 (reportOf (now (automaton .entry)) (now (trees .entry))) (now (text .exit)) r ⌝ }
+{
+    wording::report_bytes(automaton, trees, text)
 }

@@ -1,5 +1,6 @@
 // The engine's functions for Rust and C, on numbers and bytes; bindings/engine.h has their C declarations. Each answers a number, and leaves
-// three more in `told`: those of the answer, or of a refusal its number, file and place; what is missing is 0.
+// three more in `told`: those of the answer, or of a refusal its number, file and place; what is missing is 0. `right` says that these are
+// the numbers of an answer that meets the demand.
 use emptiness::Quick;
 use emptiness::Survey;
 use membership::Answer;
@@ -10,10 +11,15 @@ use tally::Tally;
 use transitions::single::Singleness;
 ghost use mathlib.Core.Path.{_≡_};
 ghost use Rattle.membership.specs.Judged.{judged};
-ghost use Rattle.emptiness.specs.Surveyed.{surveyed};
+ghost use Rattle.membership.specs.Demand2.{Demand2};
+ghost use Rattle.emptiness.specs.Surveyed.{outcome, surveyed};
 ghost use Rattle.emptiness.specs.Checked.{checked};
+ghost use Rattle.emptiness.specs.Demand3.{Demand3, Demand3Quick};
 ghost use Rattle.transitions.specs.Single.{singleOf};
 ghost use Rattle.tally.specs.Tally.{countedUp, percentOf};
+ghost use Rattle.batch.specs.Batch.{talliedOf};
+ghost use Rattle.text.specs.Appended.{Appended};
+ghost use Rattle.wording.specs.Report.{reportOf};
 ghost use Rattle.engine.specs.Numbers.{refusalTold, answerNumber, answerTold, surveyNumber, surveyTold, quickNumber, quickTold, singleNumber, singleTold, outcomeOf, tallyOf, tallyNumbers, checkNumber, checkTold, judgedTally};
 
 fn put_refusal(refusal: Refusal, told: &mut [usize; 3])
@@ -129,8 +135,10 @@ fn put_tally(tally: Tally, out: &mut [u32; 3])
 // Whether an automaton's file accepts a tree's file.
 #[no_mangle]
 pub extern "C" fn engine_judge(automaton: &[u8], tree: &[u8], told: &mut [usize; 3]) -> u32
-    ensures { λ r. ⌜ (r ≡ answerNumber (judged (now (automaton .entry)) (now (tree .entry))))
+    ensures equals { λ r. ⌜ (r ≡ answerNumber (judged (now (automaton .entry)) (now (tree .entry))))
         × (now (told .exit) ≡ answerTold (judged (now (automaton .entry)) (now (tree .entry)))) ⌝ }
+    ensures right { λ r. ⌜ ((a : Answer) × (r ≡ answerNumber a) × (now (told .exit) ≡ answerTold a)
+        × Demand2 (now (automaton .entry)) (now (tree .entry)) a) ⌝ }
 {
     put_answer(crate::judge(automaton, tree), told)
 }
@@ -138,9 +146,11 @@ pub extern "C" fn engine_judge(automaton: &[u8], tree: &[u8], told: &mut [usize;
 // Looks for a tree that an automaton's file accepts; the plan goes to the front of the buffer.
 #[no_mangle]
 pub extern "C" fn engine_survey(file: &[u8], plan: &mut [u8], told: &mut [usize; 3]) -> u32
-    ensures { λ r. ⌜ (r ≡ surveyNumber (surveyed (now (file .entry)) (now (plan .entry)) .answer))
+    ensures equals { λ r. ⌜ (r ≡ surveyNumber (surveyed (now (file .entry)) (now (plan .entry)) .answer))
         × (now (told .exit) ≡ surveyTold (surveyed (now (file .entry)) (now (plan .entry)) .answer))
         × (now (plan .exit) ≡ surveyed (now (file .entry)) (now (plan .entry)) .buffer) ⌝ }
+    ensures right { λ r. ⌜ ((a : Survey) × (r ≡ surveyNumber a) × (now (told .exit) ≡ surveyTold a)
+        × Demand3 (now (file .entry)) (now (plan .entry)) (outcome a (now (plan .exit)))) ⌝ }
 {
     put_survey(crate::survey(file, plan), told)
 }
@@ -148,7 +158,8 @@ pub extern "C" fn engine_survey(file: &[u8], plan: &mut [u8], told: &mut [usize;
 // The quick check of an automaton's file.
 #[no_mangle]
 pub extern "C" fn engine_quick(file: &[u8], told: &mut [usize; 3]) -> u32
-    ensures { λ r. ⌜ (r ≡ quickNumber (checked (now (file .entry)))) × (now (told .exit) ≡ quickTold (checked (now (file .entry)))) ⌝ }
+    ensures equals { λ r. ⌜ (r ≡ quickNumber (checked (now (file .entry)))) × (now (told .exit) ≡ quickTold (checked (now (file .entry)))) ⌝ }
+    ensures right { λ r. ⌜ ((a : Quick) × (r ≡ quickNumber a) × (now (told .exit) ≡ quickTold a) × Demand3Quick (now (file .entry)) a) ⌝ }
 {
     put_quick(crate::quick(file), told)
 }
@@ -190,4 +201,36 @@ pub extern "C" fn engine_percent(accepted: u32, other: u32) -> u32
         other,
         refused: 0,
     })
+}
+
+// The tally of trees' files end to end, onto a tally of three numbers.
+#[no_mangle]
+pub extern "C" fn engine_tally(
+    automaton: &[u8],
+    trees: &[u8],
+    tally: &mut [u32; 3],
+    told: &mut [usize; 3],
+) -> u32
+    ensures { λ r. ⌜ (r ≡ checkNumber (talliedOf (now (automaton .entry)) (now (trees .entry)) (tallyOf (now (tally .entry))) .check))
+        × (now (told .exit) ≡ checkTold (talliedOf (now (automaton .entry)) (now (trees .entry)) (tallyOf (now (tally .entry))) .check))
+        × (now (tally .exit) ≡ tallyNumbers (talliedOf (now (automaton .entry)) (now (trees .entry)) (tallyOf (now (tally .entry))) .tally)) ⌝ }
+{
+    let before = Tally {
+        accepted: tally[0],
+        other: tally[1],
+        refused: tally[2],
+    };
+    let tallied = crate::tally(automaton, trees, before);
+    let after = tallied.tally;
+    let check = tallied.check;
+    put_tally(after, tally);
+    put_check(check, told)
+}
+
+// The report on an automaton's file and trees' files end to end; its length.
+#[no_mangle]
+pub extern "C" fn engine_report(automaton: &[u8], trees: &[u8], text: &mut [u8; 357]) -> usize
+    ensures { λ r. ⌜ Appended (now (text .entry)) 0 (reportOf (now (automaton .entry)) (now (trees .entry))) (now (text .exit)) r ⌝ }
+{
+    crate::report(automaton, trees, text)
 }

@@ -5,8 +5,9 @@ use mathlib.Core.List.{List}
 use Prim.Native.Nat.{ℕ}
 use Rattle.model.specs.Trees.{Tree}
 use Rattle.model.specs.declared.Signature.{Signature}
-use Rattle.algorithms.specs.Automaton.{Accepted}
+use Rattle.algorithms.specs.Automaton.{Automaton, Accepted}
 use Rattle.blocks.specs.Blocks.{content}
+use Rattle.refusal.specs.declared.Refusal.{Refusal}
 use Rattle.automaton.specs.File.{parsed}
 use Rattle.automaton.specs.declared.Header.{Header}
 use Rattle.automaton.specs.declared.file.Parsed.{Parsed}
@@ -17,17 +18,21 @@ use Rattle.tree.specs.declared.file.ParsedTree.{ParsedTree}
 use Rattle.membership.specs.Judged.{signatureOf}
 use Rattle.membership.specs.declared.Answer.{Answer}
 
--- the file s is read without refusal, and its node list writes the tree t
-pub record FileOf (sg : Signature) (s : List ℕ) (t : Tree) : Type 0 where
-  pub nodes : ℕ
-  pub read : readTree sg s ≡ ParsedTree.Nodes nodes
-  pub writes : Writes sg (nodesOf nodes (content s)) t
+-- of an automaton that was read, and the node list of a tree's file that was read against its signature
+pub record Judges (A : Automaton) (sg : Signature) (nodes : List ℕ) (r : Answer) : Type 0 where
+  -- "From 4, one symbol a node, in preorder" (document 01): the list writes a tree, and no other
+  pub tree : Tree
+  pub writes : Writes sg nodes tree
+  pub one : (t : Tree) → Writes sg nodes t → t ≡ tree
+  -- it "is accepted exactly when, by the steps of the published definition, some run of any length, zero steps counted, leads from the root in
+  -- a start state to the root in a final state" (`Accepted` is `Accepts` of the model, over the transitions that the file's rules allow) ..
+  pub accepted : (r ≡ Answer.Accepted) ↔ Accepted A tree
+  pub other : (r ≡ Answer.Other) ↔ (¬ Accepted A tree)
+  -- .. and is not refused
+  pub no-refusal : (x : Refusal) → ¬ (r ≡ Answer.Refused x)
 
--- "A letter read without refusal is accepted exactly when, by the steps of the published definition, some run of any length, zero steps
--- counted, leads from the root in a start state to the root in a final state." (`Accepted` is `Accepts` of the model, over the transitions
--- that the rules of the file allow.)
-pub record Demand2 (w s : List ℕ) (r : Answer) : Type 0 where
-  pub accepted : (h : Header) (t : Tree) → parsed w ≡ Parsed.Read h → FileOf (signatureOf h) s t
-      → (r ≡ Answer.Accepted) ↔ Accepted (automatonOf h (content w)) t
-  pub other : (h : Header) (t : Tree) → parsed w ≡ Parsed.Read h → FileOf (signatureOf h) s t
-      → (r ≡ Answer.Other) ↔ (¬ Accepted (automatonOf h (content w)) t)
+-- "A letter read without refusal": the automaton's file w reads, and the tree's file s against it, with k nodes
+abbrev pub Demand2 : (w s : List ℕ) → Answer → Type 0
+Demand2 w s r =
+    (h : Header) (k : ℕ) → parsed w ≡ Parsed.Read h → readTree (signatureOf h) s ≡ ParsedTree.Nodes k
+    → Judges (automatonOf h (content w)) (signatureOf h) (nodesOf k (content s)) r

@@ -1,4 +1,5 @@
 // Membership: whether an automaton accepts a tree, by the overloops of its parts, from the leaves up.
+use algorithms::is_branch;
 use automaton::Header;
 use automaton::file::Parsed;
 use model::Place;
@@ -12,7 +13,6 @@ use overloops::overloops_in;
 use refusal::Refusal;
 use relation::Relation;
 use tree::file::ParsedTree;
-use tree::nodes::is_branch;
 ghost use mathlib.Core.Path.{_≡_};
 ghost use Prim.Native.Nat.{ℕ, _+_, _<_, _≤_};
 ghost use lib.ListN.{length, getD};

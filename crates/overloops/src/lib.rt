@@ -60,8 +60,8 @@ fn loops_in(
         → r .rows ≡ spec.nodeLoops A place (symbol .0) (now (left .entry)) (now (right .entry))) ⌝ }
 {
     moves(table, symbol, place, Move::Stay)
-        .join_then(moves_in(table, symbol, place, Move::Down(Side::Left)), left)
-        .join_then(
+        .join_follow(moves_in(table, symbol, place, Move::Down(Side::Left)), left)
+        .join_follow(
             moves_in(table, symbol, place, Move::Down(Side::Right)),
             right,
         )
@@ -82,7 +82,7 @@ pub fn overloops_in(
         → r .rows ≡ spec.nodeOverloops A (Place.Child side) (symbol .0) (now (left .entry)) (now (right .entry))) ⌝ }
 {
     let place = Place::Child(side);
-    loops_in(table, states, symbol, place, left, right).then_few(moves_in(
+    loops_in(table, states, symbol, place, left, right).follow(moves_in(
         table,
         symbol,
         place,
@@ -183,7 +183,7 @@ fn put_leaf(table: &[u32], states: usize, symbol: Symbol, side: Side, leaves: &m
 }
 
 // Fills the table of leaves.
-pub fn fill_leaves(table: &[u32], states: usize, leaves: &mut [u32])
+fn fill_leaves(table: &[u32], states: usize, leaves: &mut [u32])
     requires { ⌜ (length (now table) ≡ 9216) × (states ≤ 24) × (length (now leaves) ≡ 1536) ⌝ }
     ensures { λ _. ⌜ ((A : Automaton) → Tabled A states (now (table .entry)) → Leaves A (now (leaves .exit))) ⌝ }
 {

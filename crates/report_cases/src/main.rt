@@ -3,7 +3,7 @@
 use reporting::Descriptor;
 ghost use Prim.Native.Nat.{_<_};
 
-const CASES: u8 = 21;
+const CASES: u8 = 39;
 
 fn report_case(number: u8)
     requires { ⌜ number < 100 ⌝ }

@@ -103,7 +103,7 @@ fn clear(table: &mut [u32])
 }
 
 // Fills a table with the transitions that the rules allow.
-pub fn compile(content: &[u8], header: Header, table: &mut [u32])
+fn compile(content: &[u8], header: Header, table: &mut [u32])
     requires { ⌜ LaidOut header (now content) × (length (now table) ≡ 9216) ⌝ }
     ensures { λ _. ⌜ Compiled (automatonOf header (now (content .entry))) (now (table .exit)) ⌝ }
 {

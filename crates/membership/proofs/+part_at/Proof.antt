@@ -16,7 +16,7 @@ use Rattle.membership.proofs.+part_at.Lts-part_at as lts
 use Rattle.overloops.proofs.leaf_overloops.Reads as leaf-overloops
 use Rattle.overloops.proofs.overloops_in.Reads as overloops-in
 use Rattle.relation.proofs.Relation.empty.Reads as empty
-use Rattle.tree.proofs.nodes.is_branch.Reads as is-branch
+use Rattle.algorithms.proofs.is_branch.Reads as is-branch
 use Rattle.membership.proofs.+part_at.{statement}
 use Rattle.membership.proofs.+part_at.Tie.{close}
 

@@ -18,5 +18,5 @@ loops-in-spec =
     (λ c. λ A k.
     let m = k .compiled in
     loops-formed A _ _ _ _ _ (k .states) (c .before .before .before .before .before .before .before .moves .ensures A m)
-    (c .before .before .before .before .before .before .moves-in .ensures .1 A m) (c .before .before .before .before .join-then .ensures)
-    (c .before .before .before .moves-in2 .ensures .1 A m) (c .before .join-then2 .ensures) (c .close .ensures)))
+    (c .before .before .before .before .before .before .moves-in .ensures .1 A m) (c .before .before .before .before .join-follow .ensures)
+    (c .before .before .before .moves-in2 .ensures .1 A m) (c .before .join-follow2 .ensures) (c .close .ensures)))

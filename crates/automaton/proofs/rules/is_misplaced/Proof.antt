@@ -19,4 +19,4 @@ is-misplaced-spec =
     (λ c κs. search needs)
     (λ c. rw (c .enum-told .given .1))
     (λ c. rw (c .before .enum-told2 .given .1) (c .may-be-root .ensures))
-    (λ c. rw (c .before .enum-told3 .given .1) (ap not (c .contains .ensures))))
+    (λ c. rw (c .before .enum-told3 .given .1) (ap not (c .is-branch .ensures))))

@@ -43,8 +43,8 @@ leaf-sets-spec =
           let branches = c .before .before .before .before .before .before .before .args .header .branches in
           let turn = gathered-turn nothing full-nothing (algebraOf A .leafClass) (full-leafClass A) 0 branches (at .symbol) in
           ⊎-elim
-          (λ w. turn false _ _ _ (sym (c .before .contains .ensures) ∙ not-true _ (w .0 .taken)) (at .inv .1 A P k) (w .1 .ensures A P k) (ap partsIn (w .3) ∙ w .2 .ensures))
-          (λ w. turn true _ _ _ (sym (c .before .contains .ensures) ∙ not-false _ (w .0 .left)) (at .inv .1 A P k) refl (ap partsIn (w .1)))
+          (λ w. turn false _ _ _ (sym (c .before .is-branch .ensures) ∙ not-true _ (w .0 .taken)) (at .inv .1 A P k) (w .1 .ensures A P k) (ap partsIn (w .3) ∙ w .2 .ensures))
+          (λ w. turn true _ _ _ (sym (c .before .is-branch .ensures) ∙ not-false _ (w .0 .left)) (at .inv .1 A P k) refl (ap partsIn (w .1)))
           (c .if1 .came),
     ))
     (λ c. λ A a P k.

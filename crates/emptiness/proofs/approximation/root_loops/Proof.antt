@@ -52,9 +52,9 @@ root-loops-spec =
           let branches = c .before .before .before .before .before .before .before .before .before .args .header .branches in
           ⊎-elim
           (λ w. ap rowsIn (w .3) ∙ w .2 .ensures ∙ ap₂ joined (at .inv .1 A k) (w .1 .ensures A k)
-          ∙ root-branch A x branches (at .symbol) (sym (c .before .contains .ensures) ∙ w .0 .taken))
+          ∙ root-branch A x branches (at .symbol) (sym (c .before .is-branch .ensures) ∙ w .0 .taken))
           (λ w. ap rowsIn (w .3) ∙ w .2 .ensures ∙ ap₂ joined (at .inv .1 A k) (w .1 .ensures A k)
-          ∙ root-leaf A x branches (at .symbol) (sym (c .before .contains .ensures) ∙ w .0 .left))
+          ∙ root-leaf A x branches (at .symbol) (sym (c .before .is-branch .ensures) ∙ w .0 .left))
           (c .if1 .came),
     ))
     (λ c. λ A a k.

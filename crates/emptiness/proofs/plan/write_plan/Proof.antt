@@ -27,6 +27,7 @@ write-plan-spec =
     Inv-loop
     μ-loop
     (λ c. (refl, search needs, refl))
+    (λ c. search needs)
     (λ c κs. search needs)
     (λ c κs. search needs)
     (λ c. search needs)
@@ -34,6 +35,7 @@ write-plan-spec =
     (λ c.
     let a = c .before .before .before .before .before .before .before .before .before .args in
     (search needs, search needs, plan-step (a .rows .now) (a .plan .now) _ _ (c .before .before .before .before .before .before .loop .i) (c .before .before .before .origin-at .result) (c .before .before .before .origin-at .ensures) (c .before .before .before .before .before .before .loop .inv .2) (c .before .before .put-row .ensures)))
+    (λ c. search needs)
     (λ c κs. search needs)
     (λ c. search needs)
     (λ c.

@@ -40,8 +40,8 @@ try-lefts-spec =
     Inv-loop
     μ-loop
     (λ c. (search needs, search needs, search needs, λ A k base before h e. begun A refl h))
-    (λ c κs. search needs)
     (λ c. search needs)
+    (λ c κs. search needs)
     (λ c κs. search needs)
     (λ c. search needs)
     (λ c. search needs)

@@ -23,6 +23,7 @@ is-known-spec =
     Inv-loop
     μ-loop
     (λ c. (search needs, λ i l. absurd (search needs)))
+    (λ c. search needs)
     (λ c κs. search needs)
     (λ c. (c .before .before .before .loop .i, search needs, sym (c .before .same-at .ensures) ∙ c .if1 .taken))
     (λ c. search needs)

@@ -17,6 +17,7 @@ keep-spec =
     (λ c.
     let known = c .before in
     (search needs, λ A kept d s o x. keep-over A _ _ kept d s (search needs) (searched A _ _ kept d _ s (search needs) x (known .before .is-known .ensures) (known .if2 .left))))
+    (λ c. search needs)
     (λ c κs. search needs)
     (λ c. search needs)
     (λ c. search needs)

@@ -21,4 +21,5 @@ origin-at-spec =
     (λ c. search needs)
     (λ c. search needs)
     (λ c. search needs)
-    (λ c. origin-read (c .before .before .before .args .rows .now) (c .before .before .before .args .i)))
+    (λ c. search needs)
+    (λ c. origin-read (c .before .before .before .before .args .rows .now) (c .before .before .before .before .args .row .0)))

@@ -16,6 +16,7 @@ same-at-spec =
     (λ c. search needs)
     (λ c. search needs)
     (λ c. search needs)
+    (λ c. search needs)
     (λ c κs. search needs)
     (λ c. search needs)
     (λ c. search needs)
@@ -24,8 +25,8 @@ same-at-spec =
     (λ c. search needs)
     (λ c κs. search needs)
     (λ c.
-    let a = c .before .before .before .before .before .before .before .before .args in
-    both-same (a .rows .now) (a .left .now) (a .right .now) (a .i) (c .before .before .before .same-rows .ensures) (c .before .before .if1 .taken) (c .same-rows2 .ensures))
+    let a = c .before .before .before .before .before .before .before .before .before .args in
+    both-same (a .rows .now) (a .left .now) (a .right .now) (a .row .0) (c .before .before .before .same-rows .ensures) (c .before .before .if1 .taken) (c .same-rows2 .ensures))
     (λ c.
-    let a = c .before .before .before .before .before .before .args in
-    left-differs (a .rows .now) (a .left .now) (a .right .now) (a .i) (c .before .same-rows .ensures) (c .if1 .left)))
+    let a = c .before .before .before .before .before .before .before .args in
+    left-differs (a .rows .now) (a .left .now) (a .right .now) (a .row .0) (c .before .same-rows .ensures) (c .if1 .left)))

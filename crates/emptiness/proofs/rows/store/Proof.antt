@@ -1,15 +1,22 @@
 -- `emptiness::rows::store` meets its contract.
 -- Assumes nothing.
 use borrow.Author.Needs.{needs}
+use mathlib.Core.Path.{_≡_}
+use lib.ListN.{length}
 use Rattle.emptiness.specs.Classes.{partsIn}
 use Rattle.emptiness.proofs.Table.{written}
 use Rattle.emptiness.proofs.rows.store.Statement.{statement}
 use Rattle.emptiness.proofs.rows.store.Tie as tie
 
+-- a class has 24 rows on each side
+sizes : (c : tie.Start) → (length (c .args .class .left .rows) ≡ 24) × (length (c .args .class .right .rows) ≡ 24)
+sizes c = (search needs, search needs)
+
 pub store-spec : {M : Type 1} → statement M
 store-spec =
     tie.close
     (tie.spec
+    (λ c. search needs)
     (λ c. search needs)
     (λ c κs. search needs)
     (λ c. search needs)
@@ -18,5 +25,6 @@ store-spec =
     (λ c κs. search needs)
     (λ c. search needs)
     (λ c.
-    let a = c .before .before .before .before .before .before .before .before .before .before .before .before .before .args in
-    written (a .i) _ _ _ (partsIn (a .class)) _ _ _ _ (search needs) (search needs) (search needs) (search needs) (c .before .before .before .before .before .before .before .before .before .before .put-origin .ensures) (c .before .before .before .before .before .before .put-rows .ensures) (c .before .before .put-rows2 .ensures) (search needs) (search needs) (search needs)))
+    let start = c .before .before .before .before .before .before .before .before .before .before .before .before .before .before in
+    let a = start .args in
+    written (a .row .0) _ _ _ (partsIn (a .class)) _ _ _ _ (search needs) (search needs) (sizes start .0) (sizes start .1) (c .before .before .before .before .before .before .before .before .before .before .put-origin .ensures) (c .before .before .before .before .before .before .put-rows .ensures) (c .before .before .put-rows2 .ensures) (search needs) (search needs) (search needs)))

@@ -1,4 +1,4 @@
--- `engine::numbers::engine_judge` meets its contract: it is `judge`, with the answer as numbers.
+-- `engine::numbers::engine_judge` meets its contract: it is `judge`, with the answer as numbers; that answer meets the demand.
 -- Assumes nothing.
 use borrow.Author.Needs.{needs}
 use mathlib.Core.Path.{ap, _∙_}
@@ -11,7 +11,8 @@ engine-judge-spec = tie.close (tie.spec
     (λ c κs. search needs)
     (λ c κs. search needs)
     (λ c.
-    let e = c .before .before .judge .ensures .0 in (
-      c .put-answer .ensures .0 ∙ ap answerNumber e,
-      c .put-answer .ensures .1 ∙ ap answerTold e,
+    let answer = c .before .before .judge in
+    let e = answer .ensures .0 in (
+      (c .put-answer .ensures .0 ∙ ap answerNumber e, c .put-answer .ensures .1 ∙ ap answerTold e),
+      (answer .result, c .put-answer .ensures .0, c .put-answer .ensures .1, answer .ensures .1),
     )))

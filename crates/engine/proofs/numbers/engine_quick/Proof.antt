@@ -1,4 +1,4 @@
--- `engine::numbers::engine_quick` meets its contract: it is `quick`, with the answer as numbers.
+-- `engine::numbers::engine_quick` meets its contract: it is `quick`, with the answer as numbers; that answer meets the demand.
 -- Assumes nothing.
 use borrow.Author.Needs.{needs}
 use mathlib.Core.Path.{ap, _∙_}
@@ -11,7 +11,8 @@ engine-quick-spec = tie.close (tie.spec
     (λ c κs. search needs)
     (λ c κs. search needs)
     (λ c.
-    let e = c .before .before .quick .ensures .0 in (
-      c .put-quick .ensures .0 ∙ ap quickNumber e,
-      c .put-quick .ensures .1 ∙ ap quickTold e,
+    let answer = c .before .before .quick in
+    let e = answer .ensures .0 in (
+      (c .put-quick .ensures .0 ∙ ap quickNumber e, c .put-quick .ensures .1 ∙ ap quickTold e),
+      (answer .result, c .put-quick .ensures .0, c .put-quick .ensures .1, answer .ensures .1),
     )))

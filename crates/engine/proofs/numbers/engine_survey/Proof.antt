@@ -1,4 +1,4 @@
--- `engine::numbers::engine_survey` meets its contract: it is `survey`, with the answer as numbers.
+-- `engine::numbers::engine_survey` meets its contract: it is `survey`, with the answer as numbers; that answer meets the demand.
 -- Assumes nothing.
 use borrow.Author.Needs.{needs}
 use mathlib.Core.Path.{ap, _∙_}
@@ -13,8 +13,12 @@ engine-survey-spec = tie.close (tie.spec
     (λ c κs. search needs)
     (λ c. search needs)
     (λ c.
-    let e = c .before .before .before .before .survey .ensures .0 in (
-      c .put-survey .ensures .0 ∙ ap (λ (o : Outcome). surveyNumber (o .answer)) e,
-      c .put-survey .ensures .1 ∙ ap (λ (o : Outcome). surveyTold (o .answer)) e,
-      ap (λ (o : Outcome). o .buffer) e,
+    let answer = c .before .before .before .before .survey in
+    let e = answer .ensures .0 in (
+      (
+        c .put-survey .ensures .0 ∙ ap (λ (o : Outcome). surveyNumber (o .answer)) e,
+        c .put-survey .ensures .1 ∙ ap (λ (o : Outcome). surveyTold (o .answer)) e,
+        ap (λ (o : Outcome). o .buffer) e,
+      ),
+      (answer .result, c .put-survey .ensures .0, c .put-survey .ensures .1, answer .ensures .1),
     )))

@@ -1,0 +1,38 @@
+//! Trees' files end to end (document 01, "Tally and report").
+use crate::{blocks, Judge, Refusal, Verdict};
+
+/// How many trees were accepted, judged and not accepted, and refused.
+pub type Tally = [u32; 3];
+
+/// The tally of trees' files end to end. The limit of a million is left out: no batch here comes near it.
+pub fn tally(judge: &impl Judge, mut trees: &[u8]) -> Tally {
+    let mut tally = [0; 3];
+    while !trees.is_empty() {
+        let Some(file) = first_file(trees) else {
+            tally[2] += 1;
+            break;
+        };
+        let verdict = judge.judge(file);
+        count(&mut tally, verdict);
+        if matches!(verdict, Verdict::Refused(Refusal { number: 1..=4, .. })) {
+            break;
+        }
+        trees = &trees[file.len()..];
+    }
+    tally
+}
+
+pub fn count(tally: &mut Tally, verdict: Verdict) {
+    match verdict {
+        Verdict::Accepted => tally[0] += 1,
+        Verdict::Other => tally[1] += 1,
+        Verdict::Refused(_) => tally[2] += 1,
+    }
+}
+
+/// The first file, whose first block gives its length; nothing where the bytes stop inside it.
+fn first_file(trees: &[u8]) -> Option<&[u8]> {
+    let first = trees.get(..blocks::BLOCK)?;
+    let nodes = usize::from(u16::from_le_bytes([first[2], first[3]]));
+    trees.get(..blocks::BLOCK * (4 + nodes).div_ceil(blocks::CONTENT))
+}

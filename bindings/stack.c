@@ -1,0 +1,254 @@
+/* Measures the stack that each function takes above its caller, on the inputs that take most, and fails where one takes more than engine.h
+ * says. A call is made on a stack that was filled with one byte; what it took reaches down to the lowest byte that changed. */
+#include "engine.h"
+#include <stdio.h>
+#include <stdlib.h>
+#include <string.h>
+#include <ucontext.h>
+
+enum { CONTENT = 508, BLOCK = 512, STACK = 1 << 20, FILLED = 0xA5, HEIGHT = 64, WALKER = 6 * BLOCK, LETTER = 9 * BLOCK };
+
+/* ---- files */
+
+static void write_check(uint8_t *block, uint32_t number)
+{
+    uint32_t sum = number + 1;
+    for (int at = 0; at < CONTENT; at += 4)
+        sum += block[at] | (uint32_t)block[at + 1] << 8 | (uint32_t)block[at + 2] << 16 | (uint32_t)block[at + 3] << 24;
+    for (int i = 0; i < 4; i++)
+        block[CONTENT + i] = (uint8_t)(sum >> 8 * i);
+}
+
+/* A file of the fewest blocks that hold a payload; its length. */
+static size_t write_file(uint8_t *file, const uint8_t *payload, size_t length)
+{
+    size_t blocks = (length + CONTENT - 1) / CONTENT;
+    memset(file, 0, blocks * BLOCK);
+    for (size_t b = 0; b < blocks; b++) {
+        size_t from = b * CONTENT, left = length - from;
+        memcpy(file + b * BLOCK, payload + from, left < CONTENT ? left : CONTENT);
+        write_check(file + b * BLOCK, (uint32_t)b);
+    }
+    return blocks * BLOCK;
+}
+
+static uint8_t payload[6 * CONTENT];
+static unsigned rules;
+
+static void add_rule(int symbol, int state, int place, int move, int next)
+{
+    uint8_t *rule = payload + 20 + 5 * rules++;
+    rule[0] = (uint8_t)symbol, rule[1] = (uint8_t)state, rule[2] = (uint8_t)place, rule[3] = (uint8_t)move, rule[4] = (uint8_t)next;
+}
+
+/* The largest walker: 24 states, 32 symbols, of which 31 branch and the last is the leaf, 512 rules. It counts the nodes of left spines
+ * modulo 3, 4 and 7, so that the survey goes on to its last round, and stays at the root for the remaining rules. */
+static size_t write_walker(uint8_t *file, uint32_t final)
+{
+    static const int first[3] = {0, 3, 7}, length[3] = {3, 4, 7};
+    rules = 0;
+    for (int cycle = 0; cycle < 3; cycle++) {
+        add_rule(31, first[cycle], 1, 1, 14);
+        for (int i = 0; i < length[cycle]; i++)
+            for (int symbol = 0; symbol < 31; symbol++)
+                add_rule(symbol, first[cycle] + i, 1, 2, first[cycle] + (i + 1) % length[cycle]);
+    }
+    for (int symbol = 0; symbol < 31; symbol++)
+        add_rule(symbol, 14, 1, 1, 14);
+    while (rules < 512)
+        add_rule((int)rules % 31, 16 + (int)rules % 7, 0, 0, 16 + (int)(rules + 1) % 7);
+    uint32_t sets[3] = {1u << 16, final, 0x7fffffff};
+    payload[0] = 87, payload[1] = 24, payload[2] = 32, payload[4] = 0, payload[5] = 2;
+    for (int i = 0; i < 12; i++)
+        payload[8 + i] = (uint8_t)(sets[i / 4] >> 8 * (i % 4));
+    return write_file(file, payload, 20 + 5 * 512);
+}
+
+static uint8_t nodes[4 + 4096];
+static unsigned count;
+
+static void add_node(int symbol)
+{
+    nodes[4 + count++] = (uint8_t)symbol;
+}
+
+static void add_full(int height)
+{
+    add_node(height == 0 ? 31 : height);
+    for (int part = 0; height > 0 && part < 2; part++)
+        add_full(height - 1);
+}
+
+/* From a level of a comb down to level 64, on one side; on the other are leaves, or, if large, full trees for 4,095 nodes in all. */
+static void add_comb(int left, int large, int level)
+{
+    if (level == HEIGHT) {
+        add_full(0);
+        return;
+    }
+    add_node(0);
+    if (left)
+        add_comb(left, large, level + 1);
+    add_full(!large ? 0 : level < 31 ? 6 : level < 61 ? 1 : 0);
+    if (!left)
+        add_comb(left, large, level + 1);
+}
+
+static size_t write_letter(uint8_t *file, int left, int large)
+{
+    count = 0;
+    add_comb(left, large, 0);
+    nodes[0] = 84, nodes[1] = 0, nodes[2] = (uint8_t)count, nodes[3] = (uint8_t)(count >> 8);
+    return write_file(file, nodes, 4 + count);
+}
+
+static struct {
+    uint8_t walker[WALKER], letter[LETTER];
+    size_t walker_length, letter_length;
+} input;
+
+/* Each pair of a walker (none, the one, and it with the start state final) and a letter (none, then combs: left, right, and both large). */
+enum { WALKERS = 3, LETTERS = 5, INPUTS = WALKERS * LETTERS };
+
+static void make_input(int number)
+{
+    int walker = number / LETTERS, letter = number % LETTERS;
+    input.walker_length = walker == 0 ? 0 : write_walker(input.walker, walker == 1 ? 1u << 23 : 1u << 16);
+    input.letter_length = letter == 0 ? 0 : write_letter(input.letter, letter % 2, letter > 2);
+}
+
+/* ---- calls */
+
+static size_t told[3];
+static uint32_t tally[3], answer;
+
+static void call_judge(void)
+{
+    answer = engine_judge(input.walker, input.walker_length, input.letter, input.letter_length, told);
+}
+
+static void call_survey(void)
+{
+    static uint8_t plan[195];
+    answer = engine_survey(input.walker, input.walker_length, plan, sizeof plan, told);
+}
+
+static void call_quick(void)
+{
+    answer = engine_quick(input.walker, input.walker_length, told);
+}
+
+static void call_single(void)
+{
+    answer = engine_single(input.walker, input.walker_length, told);
+}
+
+static void call_count(void)
+{
+    answer = engine_count(tally, 0, told);
+}
+
+static void call_percent(void)
+{
+    answer = engine_percent(tally[0], tally[1]);
+}
+
+static void call_tally(void)
+{
+    answer = engine_tally(input.walker, input.walker_length, input.letter, input.letter_length, tally, told);
+}
+
+static void call_report(void)
+{
+    static uint8_t text[357];
+    answer = (uint32_t)engine_report(input.walker, input.walker_length, input.letter, input.letter_length, text);
+}
+
+static const struct {
+    const char *name;
+    void (*call)(void);
+    size_t limit;
+} functions[] = {
+    {"engine_judge", call_judge, ENGINE_JUDGE_STACK},    {"engine_survey", call_survey, ENGINE_SURVEY_STACK},
+    {"engine_quick", call_quick, ENGINE_QUICK_STACK},    {"engine_single", call_single, ENGINE_SINGLE_STACK},
+    {"engine_count", call_count, ENGINE_COUNT_STACK},    {"engine_percent", call_percent, ENGINE_PERCENT_STACK},
+    {"engine_tally", call_tally, ENGINE_TALLY_STACK},    {"engine_report", call_report, ENGINE_REPORT_STACK},
+};
+
+/* ---- measuring */
+
+static uint8_t *stack;
+static ucontext_t here, there;
+static void (*called)(void);
+static uint8_t *caller;
+
+static void enter(void)
+{
+    caller = __builtin_frame_address(0);
+    called();
+}
+
+/* How far below its caller's frame a call wrote. */
+static size_t stack_of(void (*call)(void))
+{
+    memset(stack, FILLED, STACK);
+    called = call;
+    if (getcontext(&there) != 0)
+        exit(1);
+    there.uc_stack.ss_sp = stack;
+    there.uc_stack.ss_size = STACK;
+    there.uc_link = &here;
+    makecontext(&there, enter, 0);
+    if (swapcontext(&here, &there) != 0)
+        exit(1);
+    size_t lowest = 0;
+    while (stack[lowest] == FILLED)
+        lowest++;
+    return (size_t)(caller - (stack + lowest));
+}
+
+static size_t most_of(void (*call)(void))
+{
+    size_t most = 0;
+    for (int number = 0; number < INPUTS; number++) {
+        make_input(number);
+        size_t taken = stack_of(call);
+        most = taken > most ? taken : most;
+    }
+    return most;
+}
+
+/* That the inputs are what they should be: refused, not accepted and accepted; nine blocks; a survey that ends with Open 64. */
+static int inputs_right(void)
+{
+    for (int number = 0; number < INPUTS; number++) {
+        make_input(number);
+        call_judge();
+        int walker = number / LETTERS, letter = number % LETTERS;
+        if (answer != (walker == 0 || letter == 0 ? 2u : walker == 1 ? 1u : 0u) || (letter > 2 && input.letter_length != LETTER))
+            return 0;
+        call_survey();
+        if (walker == 1 && (answer != 1 || told[0] != 64))
+            return 0;
+    }
+    return 1;
+}
+
+int main(void)
+{
+    int status = 0;
+    stack = malloc(STACK);
+    if (stack == NULL || !inputs_right()) {
+        fputs("FAILED: the inputs are not what they should be\n", stderr);
+        return 1;
+    }
+    for (size_t i = 0; i < sizeof functions / sizeof functions[0]; i++) {
+        size_t most = most_of(functions[i].call);
+        printf("%-16s%8zu bytes of stack, at most %zu\n", functions[i].name, most, functions[i].limit);
+        if (most > functions[i].limit) {
+            fprintf(stderr, "FAILED: %s takes more stack than engine.h says\n", functions[i].name);
+            status = 1;
+        }
+    }
+    return fflush(stdout) == 0 ? status : 1;
+}
