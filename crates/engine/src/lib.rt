@@ -4,6 +4,7 @@ pub mod numbers;
 use membership::Answer;
 use refusal::Check;
 use tally::Outcome;
+use tally::Tallied;
 use tally::Tally;
 use transitions::single::Singleness;
 ghost use mathlib.Core.Path.{_≡_};
