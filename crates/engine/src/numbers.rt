@@ -221,9 +221,9 @@ pub extern "C" fn engine_tally(
         refused: tally[2],
     };
     let tallied = crate::tally(automaton, trees, before);
-    let after = tallied.tally;
+    let total = tallied.tally;
     let check = tallied.check;
-    put_tally(after, tally);
+    put_tally(total, tally);
     put_check(check, told)
 }
 
