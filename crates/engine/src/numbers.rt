@@ -184,7 +184,7 @@ pub extern "C" fn engine_count(tally: &mut [u32; 3], outcome: u32, told: &mut [u
         other: tally[1],
         refused: tally[2],
     };
-    let counted = crate::count(before, outcome_of(outcome));
+    let counted = tally::count_held(before, outcome_of(outcome));
     let after = counted.tally;
     let check = counted.check;
     put_tally(after, tally);

@@ -5,7 +5,7 @@ use batch::Turn;
 use refusal::Check;
 use refusal::Refusal;
 use tally::Tally;
-use tally::count_held;
+use tally::count;
 ghost use mathlib.Core.Path.{_≡_};
 ghost use mathlib.Core.Bool.{_&&_};
 ghost use mathlib.Core.List.{List};
@@ -99,9 +99,7 @@ fn tally_files(header: Header, table: &[u32], leaves: &[u32], input: Descriptor)
         match turn {
             Turn::End => return tally,
             Turn::File(outcome, more) => {
-                let counted = count_held(tally, outcome);
-                let check = counted.check;
-                tally = counted.tally;
+                let check = count(&mut tally, outcome);
                 turn = turn_after(check, more, header, table, leaves, input);
             }
         }
