@@ -15,7 +15,7 @@ use Rattle.transitions.specs.Transitions.{automatonOf}
 use Rattle.tree.specs.File.{nodesOf, readTree}
 use Rattle.tree.specs.Nodes.{treeOf}
 use Rattle.tree.specs.declared.file.ParsedTree.{ParsedTree}
-use Rattle.membership.specs.Judged.{signatureOf, told, judgedBy}
+use Rattle.membership.specs.Judged.{signatureOf, acceptedIf, judgedBy}
 use Rattle.membership.specs.declared.Answer.{Answer}
 use Rattle.tally.specs.Tally.{limitCheck, countedUp}
 use Rattle.tally.specs.declared.Tally.{Tally}
@@ -40,7 +40,7 @@ countAll h p t [] = t
 countAll h p t (s ∷ ss) = countAll h p (countedUp t (outcomeOf (judgedBy h p s)) .tally) ss
 
 module _ (h : Header) (p : List ℕ) where
-  ends-not : (b : Bool) → endsBatch (told b) ≡ false
+  ends-not : (b : Bool) → endsBatch (acceptedIf b) ≡ false
   ends-not true = refl
   ends-not false = refl
 

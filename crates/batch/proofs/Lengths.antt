@@ -14,11 +14,11 @@ use Rattle.refusal.specs.declared.Check.{Check}
 use Rattle.refusal.specs.declared.Fault.{Fault}
 use Rattle.refusal.proofs.Passed.{clash, both-passed, if-passed, count-passed, file-passed}
 use Rattle.model.specs.declared.Signature.{Signature}
-use Rattle.tree.specs.File.{treeFormat, countOf, layoutCheck, bodyCheck, parsed, readTree}
+use Rattle.tree.specs.File.{treeFormat, countOf, layoutCheck, bodyCheck, nodesIf, readTree}
 use Rattle.tree.specs.declared.file.ParsedTree.{ParsedTree}
 use Rattle.batch.specs.Batch.{fileBlocks}
 
-passed-of : (c : Check) (k k′ : ℕ) → parsed c k ≡ ParsedTree.Nodes k′ → c ≡ Check.Passed
+passed-of : (c : Check) (k k′ : ℕ) → nodesIf c k ≡ ParsedTree.Nodes k′ → c ≡ Check.Passed
 passed-of Check.Passed k k′ e = refl
 passed-of (Check.Refused r) k k′ e = clash (cc)
 

@@ -35,9 +35,9 @@ use Rattle.tree.specs.Nodes.{treeOf, noSymbol, symbolsCheck, partsFrom, shapeCh
 use Rattle.tree.specs.Preorder.{Writes}
 use Rattle.tree.proofs.Reading.{tree-read}
 use Rattle.tree.specs.declared.file.ParsedTree.{ParsedTree}
-use Rattle.membership.specs.Judged.{signatureOf, told, judgedBy, judged}
+use Rattle.membership.specs.Judged.{signatureOf, acceptedIf, judgedBy, judged}
 use Rattle.membership.specs.Demand2.{Judges}
-use Rattle.membership.specs.Proved.{judged-right}
+use Rattle.membership.proofs.Proved.{judged-right}
 use Rattle.membership.specs.declared.Answer.{Answer}
 use Rattle.emptiness.specs.Surveyed.{planBytes, told as toldSurvey, written, bufferCheck, outcome, surveyed}
 use Rattle.emptiness.specs.Checked.{clearOr, checked}
@@ -109,18 +109,18 @@ letter-nodes h (ParsedTree.Nodes k) w s t b e =
     (k, refl, same, rw same at answer)
 
 answer-is : (w s : List ℕ) (h : Header) (k : ℕ) (t : Tree) (b : Bool) → parsed w ≡ Parsed.Read h → readTree (signatureOf h) s ≡ ParsedTree.Nodes k
-    → treeOf (h .branches) (nodesOf k (content s)) ≡ t → accepts? (automatonOf h (content w)) t ≡ b → judged w s ≡ told b
+    → treeOf (h .branches) (nodesOf k (content s)) ≡ t → accepts? (automatonOf h (content w)) t ≡ b → judged w s ≡ acceptedIf b
 unfolding judged judgedBy
 answer-is w s h k t b read letter-read same accepted = rw (read, letter-read, same, accepted)
 
 -- the two answers are the two sides of a test
-told-run : (b : Bool) (a : Answer) {X : Type 0} → a ≡ told b → (a ≡ Answer.Accepted) ↔ X → X ↔ T b
+told-run : (b : Bool) (a : Answer) {X : Type 0} → a ≡ acceptedIf b → (a ≡ Answer.Accepted) ↔ X → X ↔ T b
 told-run true a e f = (λ x. tt, λ t. f .0 e)
 told-run false a e f = (λ x. let z : a ≡ Answer.Accepted = f .1 x in clash (cc), λ t. absurd t)
 
 -- a run of the one tree that a list writes
 run-is : (A : Automaton) (sg : Signature) (nodes : List ℕ) (t : Tree) (b : Bool) (a : Answer)
-    → Judges A sg nodes a → Writes sg nodes t → a ≡ told b → Accepted A t ↔ T b
+    → Judges A sg nodes a → Writes sg nodes t → a ≡ acceptedIf b → Accepted A t ↔ T b
 run-is A sg nodes t b a right written e = rw (right .one t written) (told-run b a e (right .accepted))
 
 judges-right : (w s : List ℕ) (t : Tree) (b : Bool) → judgingSeen (parsed w) w s ≡ judged-as t b → JudgesRight w s t b

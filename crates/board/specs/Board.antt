@@ -17,7 +17,7 @@ use Rattle.transitions.specs.Transitions.{automatonOf}
 use Rattle.tree.specs.File.{nodesOf, readTree}
 use Rattle.tree.specs.Preorder.{Writes}
 use Rattle.tree.specs.declared.file.ParsedTree.{ParsedTree}
-use Rattle.membership.specs.Judged.{signatureOf, told, judged}
+use Rattle.membership.specs.Judged.{signatureOf, acceptedIf, judged}
 use Rattle.emptiness.specs.Surveyed.{Outcome, outcome, surveyed}
 use Rattle.emptiness.specs.Checked.{checked}
 use Rattle.emptiness.specs.Demand3.{Surveys, Approximates}
@@ -56,7 +56,7 @@ pub record JudgesRight (w s : List ℕ) (t : Tree) (accepted : Bool) : Type 0 wh
   pub nodes : ℕ
   pub letter-read : readTree (signatureOf header) s ≡ ParsedTree.Nodes nodes
   pub writes : Writes (signatureOf header) (nodesOf nodes (content s)) t
-  pub answer : judged w s ≡ told accepted
+  pub answer : judged w s ≡ acceptedIf accepted
   pub run : Accepted (automatonOf header (content w)) t ↔ T accepted
 
 -- the survey's answer, and a buffer that begins with the plan and is otherwise as it was

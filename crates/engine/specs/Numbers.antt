@@ -66,10 +66,10 @@ singleTold Singleness.Multiple = none
 singleTold (Singleness.Refused r) = refusalTold r
 
 -- counting: an outcome, and a tally, by their numbers; whether the outcome was counted
-unfoldable pub outcomeOf : ℕ → Outcome
-outcomeOf zero = Outcome.Accepted
-outcomeOf (suc zero) = Outcome.Other
-outcomeOf (suc (suc n)) = Outcome.Refused
+unfoldable pub outcomeNumbered : ℕ → Outcome
+outcomeNumbered zero = Outcome.Accepted
+outcomeNumbered (suc zero) = Outcome.Other
+outcomeNumbered (suc (suc n)) = Outcome.Refused
 
 abbrev pub tallyOf : List ℕ → Tally
 tallyOf ns = record { accepted = getD ns 0 0; other = getD ns 1 0; refused = getD ns 2 0 }

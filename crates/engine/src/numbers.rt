@@ -20,7 +20,7 @@ ghost use Rattle.tally.specs.Tally.{countedUp, percentOf};
 ghost use Rattle.batch.specs.Batch.{talliedOf};
 ghost use Rattle.text.specs.Appended.{Appended};
 ghost use Rattle.wording.specs.Report.{reportOf};
-ghost use Rattle.engine.specs.Numbers.{refusalTold, answerNumber, answerTold, surveyNumber, surveyTold, quickNumber, quickTold, singleNumber, singleTold, outcomeOf, tallyOf, tallyNumbers, checkNumber, checkTold, judgedTally};
+ghost use Rattle.engine.specs.Numbers.{refusalTold, answerNumber, answerTold, surveyNumber, surveyTold, quickNumber, quickTold, singleNumber, singleTold, outcomeNumbered, tallyOf, tallyNumbers, checkNumber, checkTold, judgedTally};
 
 fn put_refusal(refusal: Refusal, told: &mut [usize; 3])
     ensures { λ _. ⌜ now (told .exit) ≡ refusalTold refusal ⌝ }
@@ -117,7 +117,7 @@ fn put_check(check: Check, told: &mut [usize; 3]) -> u32
 
 // 0 accepted, 1 other, any other number refused.
 fn outcome_of(number: u32) -> Outcome
-    ensures { λ r. ⌜ r ≡ outcomeOf number ⌝ }
+    ensures { λ r. ⌜ r ≡ outcomeNumbered number ⌝ }
 {
     match number {
         0 => Outcome::Accepted,
@@ -175,9 +175,9 @@ pub extern "C" fn engine_single(file: &[u8], told: &mut [usize; 3]) -> u32
 // One outcome more on a tally of three numbers: accepted, other, refused.
 #[no_mangle]
 pub extern "C" fn engine_count(tally: &mut [u32; 3], outcome: u32, told: &mut [usize; 3]) -> u32
-    ensures { λ r. ⌜ (r ≡ checkNumber (countedUp (tallyOf (now (tally .entry))) (outcomeOf outcome) .check))
-        × (now (told .exit) ≡ checkTold (countedUp (tallyOf (now (tally .entry))) (outcomeOf outcome) .check))
-        × (now (tally .exit) ≡ tallyNumbers (countedUp (tallyOf (now (tally .entry))) (outcomeOf outcome) .tally)) ⌝ }
+    ensures { λ r. ⌜ (r ≡ checkNumber (countedUp (tallyOf (now (tally .entry))) (outcomeNumbered outcome) .check))
+        × (now (told .exit) ≡ checkTold (countedUp (tallyOf (now (tally .entry))) (outcomeNumbered outcome) .check))
+        × (now (tally .exit) ≡ tallyNumbers (countedUp (tallyOf (now (tally .entry))) (outcomeNumbered outcome) .tally)) ⌝ }
 {
     let before = Tally {
         accepted: tally[0],

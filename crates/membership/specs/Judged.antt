@@ -19,13 +19,13 @@ use Rattle.membership.specs.declared.Answer.{Answer}
 abbrev pub signatureOf : Header → Signature
 signatureOf h = record { symbols = h .symbols; branches = h .branches }
 
-abbrev pub told : Bool → Answer
-told true = Answer.Accepted
-told false = Answer.Other
+abbrev pub acceptedIf : Bool → Answer
+acceptedIf true = Answer.Accepted
+acceptedIf false = Answer.Other
 
 -- of a tree's file s that was read
 abbrev pub answerOf : Automaton → ParsedTree → (s : List ℕ) → Answer
-answerOf A (ParsedTree.Nodes k) s = told (accepts? A (treeOf (A .branches) (nodesOf k (content s))))
+answerOf A (ParsedTree.Nodes k) s = acceptedIf (accepts? A (treeOf (A .branches) (nodesOf k (content s))))
 answerOf A (ParsedTree.Refused r) s = Answer.Refused r
 
 -- of a tree's file s, by the automaton of a header and the joined contents p

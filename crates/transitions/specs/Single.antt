@@ -33,10 +33,10 @@ singleFrom content (suc n) = singleFrom content n && not (meetsOne content n n)
 abbrev pub single : Header → List ℕ → Bool
 single h content = singleFrom content (h .rules)
 
-abbrev pub told : Bool → Singleness
-told true = Singleness.Single
-told false = Singleness.Multiple
+abbrev pub singleIf : Bool → Singleness
+singleIf true = Singleness.Single
+singleIf false = Singleness.Multiple
 
 -- of a file: whether its automaton is single, or its refusal
 unfoldable pub singleOf : List ℕ → Singleness
-singleOf s = readAutomaton s Singleness.Refused (λ h contents. told (single h contents))
+singleOf s = readAutomaton s Singleness.Refused (λ h contents. singleIf (single h contents))

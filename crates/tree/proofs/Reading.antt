@@ -15,7 +15,7 @@ use Rattle.refusal.specs.declared.Check.the-variants.{Passed, Refused}
 use Rattle.refusal.proofs.Passed.{clash, both-passed, count-passed, size-passed}
 use Rattle.tree.specs.Preorder.{Writes, Stands}
 use Rattle.tree.specs.Nodes.{treeOf, nodesCheck}
-use Rattle.tree.specs.File.{treeFormat, countOf, nodesOf, layoutCheck, bodyCheck, parsed, readTree, nodesAfter}
+use Rattle.tree.specs.File.{treeFormat, countOf, nodesOf, layoutCheck, bodyCheck, nodesIf, readTree, nodesAfter}
 use Rattle.tree.proofs.Laws.{writes, read-stands}
 use Rattle.tree.specs.declared.file.ParsedTree.{ParsedTree}
 
@@ -39,7 +39,7 @@ layout-passed p e =
 pub nodes-length : (k : ℕ) (p : List ℕ) → 4 + k ≤ length p → length (nodesOf k p) ≡ k
 nodes-length k p h = length-take-le k (drop 4 p) (simp length-drop (omega arith))
 
-parsed-passed : (c : Check) (k k′ : ℕ) → parsed c k ≡ ParsedTree.Nodes k′ → (c ≡ Passed) × (k ≡ k′)
+parsed-passed : (c : Check) (k k′ : ℕ) → nodesIf c k ≡ ParsedTree.Nodes k′ → (c ≡ Passed) × (k ≡ k′)
 parsed-passed Passed k k′ e = (refl, cc)
 parsed-passed (Refused r) k k′ e = clash (cc)
 

@@ -7,7 +7,7 @@ use mathlib.Core.List.{List}
 use Rattle.membership.specs.Judged.{judged}
 use Rattle.overloops.specs.Prepared.{Prepared}
 use Rattle.membership.specs.Demand2.{Demand2}
-use Rattle.membership.specs.Proved.{judged-right}
+use Rattle.membership.proofs.Proved.{judged-right}
 use Rattle.membership.specs.declared.Answer.{Answer}
 use Rattle.overloops.proofs.Laws.{prepared-read}
 use Rattle.membership.proofs.judge.Statement.{statement}

@@ -3,12 +3,12 @@
 use Prim.Native.Nat.{suc, _-_}
 use mathlib.Core.Path.{_≡_}
 use native.Mathlib.Omega.{arith}
-use Rattle.engine.specs.Numbers.{outcomeOf}
+use Rattle.engine.specs.Numbers.{outcomeNumbered}
 use Rattle.engine.proofs.numbers.outcome_of.Statement.{statement}
 use Rattle.engine.proofs.numbers.outcome_of.Tie as tie
 
 pub outcome-of-spec : {M : Type 1} → statement M
-unfolding outcomeOf
+unfolding outcomeNumbered
 outcome-of-spec =
     tie.close
     (tie.spec

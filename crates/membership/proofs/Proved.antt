@@ -16,20 +16,20 @@ use Rattle.tree.specs.File.{nodesOf}
 use Rattle.tree.specs.Nodes.{treeOf}
 use Rattle.tree.proofs.Reading.{tree-read}
 use Rattle.tree.proofs.Laws.{writes-one}
-use Rattle.membership.specs.Judged.{signatureOf, told, judgedBy, judged}
+use Rattle.membership.specs.Judged.{signatureOf, acceptedIf, judgedBy, judged}
 use Rattle.membership.specs.Demand2.{Demand2}
 use Rattle.membership.specs.declared.Answer.{Answer}
 
 -- a test that is told, against what it tests
-told-accepted : (b : Bool) {X : Type 0} → T b ↔ X → (told b ≡ Answer.Accepted) ↔ X
+told-accepted : (b : Bool) {X : Type 0} → T b ↔ X → (acceptedIf b ≡ Answer.Accepted) ↔ X
 told-accepted true e = (λ h. e .0 tt, λ x. refl)
 told-accepted false e = (λ h. clash (cc), λ x. absurd (e .1 x))
 
-told-other : (b : Bool) {X : Type 0} → T b ↔ X → (told b ≡ Answer.Other) ↔ (¬ X)
+told-other : (b : Bool) {X : Type 0} → T b ↔ X → (acceptedIf b ≡ Answer.Other) ↔ (¬ X)
 told-other true e = (λ h. clash (cc), λ n. absurd (n (e .0 tt)))
 told-other false e = (λ h x. e .1 x, λ n. refl)
 
-told-not-refused : (b : Bool) (x : Refusal) → ¬ (told b ≡ Answer.Refused x)
+told-not-refused : (b : Bool) (x : Refusal) → ¬ (acceptedIf b ≡ Answer.Refused x)
 told-not-refused true x e = clash (cc)
 told-not-refused false x e = clash (cc)
 
