@@ -9,6 +9,7 @@ use Rattle.refusal.specs.Checks.{refuseIf, _andThen_, checkEach}
 use Rattle.refusal.specs.Lines.{fileCheck, kindCheck, countCheck, sizeCheck, fillerCheck}
 use Rattle.refusal.specs.declared.Check.{Check}
 use Rattle.refusal.specs.declared.Fault.{Fault}
+use Rattle.refusal.specs.declared.Refusal.{Refusal}
 use Rattle.refusal.specs.declared.lines.Format.{Format}
 use Rattle.automaton.specs.Rules.{ruleCheck}
 use Rattle.automaton.specs.declared.Header.{Header}
@@ -78,3 +79,14 @@ parsed s =
     let p = content s in
     let h = headerOf p in
     readOf (fileCheck format s andThen layoutCheck h p andThen bodyCheck h p) h
+
+-- ---- what is answered to a file
+
+-- to a refused one by its refusal, to any other by its header and the joined contents: every answer to an automaton's file goes by this
+module _ {ℓ} {X : Type ℓ} where
+  abbrev pub byReading : Parsed → (contents : List ℕ) → (refused : Refusal → X) → (read : Header → (contents : List ℕ) → X) → X
+  byReading (Parsed.Read h) contents refused read = read h contents
+  byReading (Parsed.Refused r) contents refused read = refused r
+
+  abbrev pub readAutomaton : (file : List ℕ) → (refused : Refusal → X) → (read : Header → (contents : List ℕ) → X) → X
+  readAutomaton file refused read = byReading (parsed file) (content file) refused read

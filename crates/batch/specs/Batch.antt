@@ -8,10 +8,8 @@ use lib.ListN.{length, getD, take, drop}
 use lib.Dec.{eqb, ltb, leb}
 use Rattle.refusal.specs.Lines.{blocksNeeded}
 use Rattle.refusal.specs.declared.Check.{Check}
-use Rattle.blocks.specs.Blocks.{content}
-use Rattle.automaton.specs.File.{parsed}
+use Rattle.automaton.specs.File.{readAutomaton}
 use Rattle.automaton.specs.declared.Header.{Header}
-use Rattle.automaton.specs.declared.file.Parsed.{Parsed}
 use Rattle.membership.specs.Judged.{judgedBy}
 use Rattle.membership.specs.declared.Answer.{Answer}
 use Rattle.tally.specs.Tally.{countedUp}
@@ -113,9 +111,8 @@ nothingCounted = record { accepted = 0; other = 0; refused = 0 }
 -- ---- over an automaton's file
 
 -- the tally onto t, by an automaton's file w that reads; or t as it was, and the refusal
-abbrev pub talliedRead : Parsed → (w trees : List ℕ) → Tally → Tallied
-talliedRead (Parsed.Read h) w trees t = record { tally = batchOf h (content w) t trees; check = Check.Passed }
-talliedRead (Parsed.Refused r) w trees t = record { tally = t; check = Check.Refused r }
+abbrev pub tallied : Tally → Check → Tallied
+tallied t c = record { tally = t; check = c }
 
 unfoldable pub talliedOf : (w trees : List ℕ) → Tally → Tallied
-talliedOf w trees t = talliedRead (parsed w) w trees t
+talliedOf w trees t = readAutomaton w (λ r. tallied t (Check.Refused r)) (λ h p. tallied (batchOf h p t trees) Check.Passed)

@@ -7,7 +7,7 @@ use membership::judge_file;
 use refusal::Check;
 use tally::Outcome;
 use tally::Tally;
-use tally::count_held;
+use tally::count;
 ghost use mathlib.Core.Path.{_≡_};
 ghost use mathlib.Core.Bool.{cond, _&&_};
 ghost use Prim.Native.Nat.{_<_, _≤_};
@@ -140,11 +140,11 @@ pub fn goes_on(check: Check, more: bool) -> bool
 fn turn_after(
     check: Check,
     more: bool,
+    at: usize,
     header: Header,
     table: &[u32],
     leaves: &[u32],
     bytes: &[u8],
-    at: usize,
 ) -> Turn
     requires { ⌜ Prepared header (now table) (now leaves) ⌝ }
     ensures { λ r. ⌜ ((p : Prepared header (now (table .entry)) (now (leaves .entry)))
@@ -176,11 +176,9 @@ pub fn tally_all(
         match turn {
             Turn::End => return tally,
             Turn::File(outcome, more) => {
-                let counted = count_held(tally, outcome);
-                let check = counted.check;
-                tally = counted.tally;
+                let check = count(&mut tally, outcome);
                 at = place_after(bytes, at);
-                turn = turn_after(check, more, header, table, leaves, bytes, at);
+                turn = turn_after(check, more, at, header, table, leaves, bytes);
             }
         }
     }

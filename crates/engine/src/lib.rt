@@ -2,6 +2,7 @@
 pub mod numbers;
 
 use membership::Answer;
+use refusal::Check;
 use tally::Outcome;
 use tally::Tallied;
 use tally::Tally;
@@ -49,11 +50,12 @@ pub fn single(file: &[u8]) -> Singleness
     transitions::single::single_file(file)
 }
 
-// The tally with one outcome more; or, where it is full, as it was, and refusal 14.
-pub fn count(tally: Tally, outcome: Outcome) -> Tallied
-    ensures { λ r. ⌜ r ≡ countedUp tally outcome ⌝ }
+// The lent tally counts one outcome more; or, where it is full, stays as it was, and refusal 14 is the answer.
+pub fn count(tally: &mut Tally, outcome: Outcome) -> Check
+    ensures { λ r. ⌜ (now (tally .exit) ≡ countedUp (now (tally .entry)) outcome .tally)
+        × (r ≡ countedUp (now (tally .entry)) outcome .check) ⌝ }
 {
-    tally::count_held(tally, outcome)
+    tally::count(tally, outcome)
 }
 
 // The percent of accepted trees among those judged, to the nearest, half upward.

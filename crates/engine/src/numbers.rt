@@ -184,7 +184,7 @@ pub extern "C" fn engine_count(tally: &mut [u32; 3], outcome: u32, told: &mut [u
         other: tally[1],
         refused: tally[2],
     };
-    let counted = crate::count(before, outcome_of(outcome));
+    let counted = tally::count_held(before, outcome_of(outcome));
     let after = counted.tally;
     let check = counted.check;
     put_tally(after, tally);
@@ -221,9 +221,9 @@ pub extern "C" fn engine_tally(
         refused: tally[2],
     };
     let tallied = crate::tally(automaton, trees, before);
-    let after = tallied.tally;
+    let total = tallied.tally;
     let check = tallied.check;
-    put_tally(after, tally);
+    put_tally(total, tally);
     put_check(check, told)
 }
 

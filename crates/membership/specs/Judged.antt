@@ -7,9 +7,8 @@ use Rattle.model.specs.declared.Signature.{Signature}
 use Rattle.algorithms.specs.Automaton.{Automaton}
 use Rattle.algorithms.specs.Overloops.{accepts?}
 use Rattle.blocks.specs.Blocks.{content}
-use Rattle.automaton.specs.File.{parsed}
+use Rattle.automaton.specs.File.{readAutomaton}
 use Rattle.automaton.specs.declared.Header.{Header}
-use Rattle.automaton.specs.declared.file.Parsed.{Parsed}
 use Rattle.transitions.specs.Transitions.{automatonOf}
 use Rattle.tree.specs.File.{nodesOf, readTree}
 use Rattle.tree.specs.Nodes.{treeOf}
@@ -33,10 +32,6 @@ answerOf A (ParsedTree.Refused r) s = Answer.Refused r
 unfoldable pub judgedBy : Header → (p s : List ℕ) → Answer
 judgedBy h p s = answerOf (automatonOf h p) (readTree (signatureOf h) s) s
 
-abbrev pub judgedRead : Parsed → (w s : List ℕ) → Answer
-judgedRead (Parsed.Read h) w s = judgedBy h (content w) s
-judgedRead (Parsed.Refused r) w s = Answer.Refused r
-
 -- of an automaton's file w and a tree's file s
 unfoldable pub judged : (w s : List ℕ) → Answer
-judged w s = judgedRead (parsed w) w s
+judged w s = readAutomaton w Answer.Refused (λ h p. judgedBy h p s)

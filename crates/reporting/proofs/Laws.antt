@@ -139,12 +139,12 @@ module _ (d : Descriptor) (h : Header) (p : List ℕ) (t : Tally) (o : Outcome) 
 
 -- ---- what is reported
 
-pub reported-refused : (w : List ℕ) (d : Descriptor) (r : Refusal) (took : Bool) → parsed w ≡ Parsed.Refused r → Handed (refusedLine r) took → Reported (parsed w) w d took
-reported-refused w d r took e f = subst (λ (q : Parsed). Reported q w d took) (sym e) f
+pub reported-refused : (w : List ℕ) (d : Descriptor) (r : Refusal) (took : Bool) → parsed w ≡ Parsed.Refused r → Handed (refusedLine r) took → Reported w d took
+reported-refused w d r took e f = rw e f
 
 pub reported-read : (w : List ℕ) (d : Descriptor) (h : Header) (t : Tally) (first last took : Bool) → parsed w ≡ Parsed.Read h → reported.Tallied d h (content w) t
-    → Handed (headOf h w) first → Handed (tallyLine t) last → took ≡ (first && last) → Reported (parsed w) w d took
-reported-read w d h t first last took e x y z b = subst (λ (q : Parsed). Reported q w d took) (sym e) (t, x, first, last, y, z, b)
+    → Handed (headOf h (content w)) first → Handed (tallyLine t) last → took ≡ (first && last) → Reported w d took
+reported-read w d h t first last took e x y z b = rw e (t, x, first, last, y, z, b)
 
 -- a text that was put at the front of a buffer, and handed over
 pub handed-text : {a b text : List ℕ} {r : ℕ} → Appended a 0 text b r → (took : Bool) → Handed (take r b) took → Handed text took

@@ -5,9 +5,8 @@ use mathlib.Core.Path.{_≡_}
 use mathlib.Core.Bool.{Bool, true, false, _&&_}
 use mathlib.Core.List.{List, _∷_}
 use Prim.Native.Nat.{ℕ}
-use Rattle.blocks.specs.Blocks.{content}
 use Rattle.automaton.specs.declared.Header.{Header}
-use Rattle.automaton.specs.declared.file.Parsed.{Parsed}
+use Rattle.automaton.specs.File.{readAutomaton}
 use Rattle.tally.specs.declared.Tally.{Tally}
 use Rattle.batch.specs.Batch.{nothingCounted, turnOf}
 use Rattle.batch.specs.Turns.{Ended}
@@ -25,8 +24,11 @@ Following false descriptor h p turn = turn ≡ Turn.End
 abbrev pub Tallied : (descriptor : Descriptor) → Header → (p : List ℕ) → Tally → Type 0
 Tallied descriptor h p t = (last : List ℕ) × (ss : List (List ℕ)) × Ended h p nothingCounted last ss t × TurnsRead descriptor (last ∷ ss)
 
--- of an automaton's file w, and trees' files from a descriptor: what was handed over, and whether all of it was taken
-abbrev pub Reported : Parsed → (w : List ℕ) → (descriptor : Descriptor) → (took : Bool) → Type 0
-Reported (Parsed.Read h) w descriptor took =
-    (t : Tally) × Tallied descriptor h (content w) t × (first : Bool) × (last : Bool) × Handed (headOf h w) first × Handed (tallyLine t) last × (took ≡ (first && last))
-Reported (Parsed.Refused r) w descriptor took = Handed (refusedLine r) took
+-- by an automaton that was read, and trees' files from a descriptor: what was handed over, and whether all of it was taken
+abbrev pub ReportedRead : Header → (p : List ℕ) → (descriptor : Descriptor) → (took : Bool) → Type 0
+ReportedRead h p descriptor took =
+    (t : Tally) × Tallied descriptor h p t × (first : Bool) × (last : Bool) × Handed (headOf h p) first × Handed (tallyLine t) last × (took ≡ (first && last))
+
+-- of an automaton's file w
+abbrev pub Reported : (w : List ℕ) → (descriptor : Descriptor) → (took : Bool) → Type 0
+Reported w descriptor took = readAutomaton w (λ r. Handed (refusedLine r) took) (λ h p. ReportedRead h p descriptor took)

@@ -5,7 +5,7 @@ use batch::Turn;
 use refusal::Check;
 use refusal::Refusal;
 use tally::Tally;
-use tally::count_held;
+use tally::count;
 ghost use mathlib.Core.Path.{_≡_};
 ghost use mathlib.Core.Bool.{_&&_};
 ghost use mathlib.Core.List.{List};
@@ -99,9 +99,7 @@ fn tally_files(header: Header, table: &[u32], leaves: &[u32], input: Descriptor)
         match turn {
             Turn::End => return tally,
             Turn::File(outcome, more) => {
-                let counted = count_held(tally, outcome);
-                let check = counted.check;
-                tally = counted.tally;
+                let check = count(&mut tally, outcome);
                 turn = turn_after(check, more, header, table, leaves, input);
             }
         }
@@ -124,7 +122,7 @@ fn print_refused(refusal: Refusal) -> bool
 }
 
 fn print_head(file: &[u8], header: Header) -> bool
-    ensures { λ r. ⌜ (parsed (now (file .entry)) ≡ Parsed.Read header → Handed (headOf header (now (file .entry))) r) ⌝ }
+    ensures { λ r. ⌜ (parsed (now (file .entry)) ≡ Parsed.Read header → Handed (headOf header (content (now (file .entry)))) r) ⌝ }
 {
     let mut out = [0u8; 232];
     let end = wording::put_read(&mut out, file, header);
@@ -140,7 +138,7 @@ fn print_tally(tally: Tally) -> bool
 }
 
 fn report_file(file: &[u8], input: Descriptor) -> bool
-    ensures { λ r. ⌜ Reported (parsed (now (file .entry))) (now (file .entry)) input r ⌝ }
+    ensures { λ r. ⌜ Reported (now (file .entry)) input r ⌝ }
 {
     let mut table = [0u32; 9216];
     let mut leaves = [0u32; 1536];
@@ -158,7 +156,7 @@ fn report_file(file: &[u8], input: Descriptor) -> bool
 // The report on the automaton's file behind one descriptor (as empty if it cannot be read) and the trees' files behind the other; whether all
 // of it was taken. An automaton's file that is too long is known by one byte over the most.
 pub fn report(automaton: Descriptor, input: Descriptor) -> bool
-    ensures { λ r. ⌜ ((w : List ℕ) × Asked automaton 3073 (length w) × Reported (parsed w) w input r) ⌝ }
+    ensures { λ r. ⌜ ((w : List ℕ) × Asked automaton 3073 (length w) × Reported w input r) ⌝ }
 {
     let mut file = [0u8; 3073];
     let n = read_part(automaton, &mut file, 0, 3073);

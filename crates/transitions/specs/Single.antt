@@ -5,10 +5,8 @@ use mathlib.Core.Bool.{Bool, true, false, not, _&&_, _||_}
 use mathlib.Core.List.{List}
 use lib.ListN.{getD}
 use lib.Dec.{eqb}
-use Rattle.blocks.specs.Blocks.{content}
-use Rattle.automaton.specs.File.{parsed}
+use Rattle.automaton.specs.File.{readAutomaton}
 use Rattle.automaton.specs.declared.Header.{Header}
-use Rattle.automaton.specs.declared.file.Parsed.{Parsed}
 use Rattle.transitions.specs.declared.single.Singleness.{Singleness}
 
 -- two place bytes have a place in common: they are equal, or one is 3
@@ -39,10 +37,6 @@ abbrev pub told : Bool → Singleness
 told true = Singleness.Single
 told false = Singleness.Multiple
 
-abbrev pub singleRead : Parsed → List ℕ → Singleness
-singleRead (Parsed.Read h) content = told (single h content)
-singleRead (Parsed.Refused r) content = Singleness.Refused r
-
 -- of a file: whether its automaton is single, or its refusal
 unfoldable pub singleOf : List ℕ → Singleness
-singleOf s = singleRead (parsed s) (content s)
+singleOf s = readAutomaton s Singleness.Refused (λ h contents. told (single h contents))

@@ -1,4 +1,4 @@
--- `engine::numbers::engine_count` meets its contract: it is `count`, with the tally and the answer as numbers.
+-- `engine::numbers::engine_count` meets its contract: it is `count_held`, with the tally and the answer as numbers.
 -- Assumes nothing.
 use borrow.Author.Needs.{needs}
 use mathlib.Core.Path.{ap, _∙_}
@@ -21,7 +21,7 @@ engine-count-spec =
     (λ c κs. search needs)
     (λ c.
     let start = c .before .before .before .before .before .before .before .before .before .before in
-    let e = c .before .before .before .before .before .count .ensures
+    let e = c .before .before .before .before .before .count-held .ensures
     ∙ ap (countedUp (tallyOf (start .args .tally .now))) (c .before .before .before .before .before .before .outcome-of .ensures) in (
       c .put-check .ensures .0 ∙ ap (λ (r : Tallied). checkNumber (r .check)) e,
       c .put-check .ensures .1 ∙ ap (λ (r : Tallied). checkTold (r .check)) e,
