@@ -1,6 +1,6 @@
 #!/usr/bin/env python3
 """Tests tools/check in a copy of the project: that it passes what is stored, and names each file that was changed, added or left out; and
-tools/quotations, on documents of its own."""
+tools/quotations and tools/names, on documents of its own."""
 import os, shutil, subprocess, tempfile, unittest
 
 HERE = os.path.dirname(os.path.abspath(__file__))
@@ -75,6 +75,18 @@ class Check(unittest.TestCase):
                         ['-- "Another'], ['-- "Its text"']):
             self.assertIn('One.antt:3: not in docs/SOURCES.md: "', self.quotations(*comment))
         self.assertIn('One.antt:4: not in docs/SOURCES.md: Lemma 2', self.quotations('-- of the paper:', '-- Lemma 2, Lemma 1'))
+
+    def test_names(self):
+        self.write('crates/one/specs/One.antt', '-- gone', 'pub has-law : law')
+        self.write('crates/one/src/lib.rt', 'fn code() {}')
+        self.write('crates/one/must-fail/wrong.edit', '')
+        self.write('docs/ARCHITECTURE.md', '`one` `One`: `One.has-law`, `has-law`, `one::code`, `wrong`; `crates/one/src/lib.rt` `must-fail/`, `walker.blk`, `a b`')
+        self.assertEqual(self.check('map')[0], 0)
+        self.write('docs/ARCHITECTURE.md', '`two`', '`One.code` `One.gone` `gone`', '`one::coded`, `crates/two/src/lib.rt`')
+        status, _, said = self.check('map')
+        self.assertEqual(status, 1)
+        for place in ('1: there is no two', '2: there is no One.code', '2: there is no One.gone', '2: there is no gone', '3: there is no one::coded', '3: there is no crates/two'):
+            self.assertIn('docs/ARCHITECTURE.md:' + place, said)
 
     def test_parts(self):
         for parts in (['nothing'], [''], ['stored', 'stored doors'], ['--help']):
