@@ -21,7 +21,7 @@ use Rattle.tally.specs.Tally.{limitCheck, countedUp}
 use Rattle.tally.specs.declared.Tally.{Tally}
 use Rattle.tally.specs.declared.Outcome.{Outcome}
 use Rattle.batch.specs.Batch.{fileBlocks, firstLength, outcomeOf, endsBatch, judgedTurn, turnOf, taken, nextIn, restOf, goingOn, batchOf}
-use Rattle.batch.specs.Lengths.{file-length}
+use Rattle.batch.proofs.Lengths.{file-length}
 use Rattle.batch.specs.declared.Turn.{Turn}
 use Rattle.batch.proofs.Laws.{some-block, turn-none, turn-whole, batch-next}
 

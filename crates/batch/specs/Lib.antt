@@ -1,4 +1,3 @@
--- The definitions of a batch, of a list of bytes and in turns; and that the length told is right.
+-- The definitions of a batch, of a list of bytes and in turns.
 pub mod Batch
 pub mod Turns
-pub mod Lengths

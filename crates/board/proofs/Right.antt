@@ -33,7 +33,7 @@ use Rattle.transitions.specs.Transitions.{nextStates, automatonOf}
 use Rattle.tree.specs.File.{nodesOf, readTree, layoutCheck as treeLayout, bodyCheck as treeBody}
 use Rattle.tree.specs.Nodes.{treeOf, noSymbol, symbolsCheck, partsFrom, shapeCheck, forest, depthOf, heightCheck, nodesCheck}
 use Rattle.tree.specs.Preorder.{Writes}
-use Rattle.tree.specs.Reading.{tree-read}
+use Rattle.tree.proofs.Reading.{tree-read}
 use Rattle.tree.specs.declared.file.ParsedTree.{ParsedTree}
 use Rattle.membership.specs.Judged.{signatureOf, told, judgedBy, judged}
 use Rattle.membership.specs.Demand2.{Judges}

@@ -9,14 +9,15 @@ use native.Mathlib.Nat.{add-zero}
 use native.Mathlib.Omega.{arith}
 use borrow.Author.Tests.{lt-ltb, le-ltb, eq-eqb, ne-eqb}
 use lib.ListN.{length}
-use Rattle.model.specs.Lists.{Nth, here, there, nth-lt, countFrom}
+use Rattle.model.specs.Lists.{Nth, here, there, countFrom}
+use Rattle.model.proofs.ListLaws.{nth-lt}
 use Rattle.model.specs.Counting.{Alphabet}
 use Rattle.model.specs.Saturation.{Algebra, Candidate, Verdict, leafCandidate, Found, Open, Empty, Unended, firstAccepted, absorb, rowsOf, settle, conclude, after}
-use Rattle.model.specs.Turns.{absorb-longer}
-use Rattle.model.specs.FreshRows.{freshNodes, freshCandidates, freshRound, freshRounds, freshSaturation}
+use Rattle.model.proofs.Turns.{absorb-longer}
+use Rattle.model.specs.Fresh.{freshNodes, freshCandidates, freshRound, freshRounds, freshSaturation}
 use Rattle.algorithms.specs.Automaton.{Automaton, numbered, alphabetOf}
 use Rattle.algorithms.specs.Saturate.{algebraOf, saturationOf}
-use Rattle.algorithms.specs.Theorems.{fresh-same}
+use Rattle.algorithms.proofs.Theorems.{fresh-same}
 use Rattle.automaton.specs.declared.Header.{Header}
 use Rattle.emptiness.specs.Stored.{originOf, originIn, originsIn, Count}
 use Rattle.emptiness.specs.Tries.{Read, overRows, Held, Holds, Tries, accepted, onward}

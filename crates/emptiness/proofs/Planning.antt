@@ -12,7 +12,7 @@ use lib.Seq.{take-at, drop-at, drop-drop}
 use Rattle.model.specs.Lists.{countFrom}
 use Rattle.model.specs.Saturation as saturation
 use Rattle.model.specs.Saturation.{WitnessRow}
-use Rattle.model.specs.Turns.{countFrom-snoc}
+use Rattle.model.proofs.Turns.{countFrom-snoc}
 use Rattle.refusal.specs.Checks.{refuseIf}
 use Rattle.refusal.specs.declared.Check.{Check}
 use Rattle.refusal.specs.declared.Fault.{Fault}

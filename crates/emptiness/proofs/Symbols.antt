@@ -8,11 +8,12 @@ use native.Mathlib.Nat.{zero-add, add-zero}
 use native.Mathlib.Omega.{arith}
 use lib.Dec.{eqb}
 use borrow.Author.Tests.{eqb-true, eqb-false}
-use Rattle.relation.specs.Bit.{bit, bit-off}
+use Rattle.relation.specs.Bit.{bit}
+use Rattle.relation.proofs.BitLaws.{bit-off}
 use Rattle.relation.specs.Sets.{member}
 use Rattle.model.specs.Lists.{countFrom}
-use Rattle.model.specs.Turns.{countFrom-snoc, flatMap-append, flatMap-snoc}
-use Rattle.model.specs.FreshRows.{countFrom-append}
+use Rattle.model.proofs.Turns.{countFrom-snoc, flatMap-append, flatMap-snoc}
+use Rattle.model.proofs.FreshRows.{countFrom-append}
 use Rattle.algorithms.specs.Automaton.{consIf, numbered}
 
 consIf-append : (t : Bool) (x : ℕ) (xs ys : List ℕ) → consIf t x (xs ++ ys) ≡ consIf t x xs ++ ys

@@ -10,7 +10,8 @@ use native.Mathlib.Decide.{ℕ-discrete, decLt}
 use native.Mathlib.Omega.{arith}
 use lib.ListN.{length, getD, set, take, drop, length-append}
 use Rattle.relation.specs.Rows.{sameRows}
-use Rattle.model.specs.Lists.{Nth, here, there, nth-append, nth-seam, nth-lt, nth-of-lt, nth-unique}
+use Rattle.model.specs.Lists.{Nth, here, there}
+use Rattle.model.proofs.ListLaws.{nth-append, nth-seam, nth-lt, nth-of-lt, nth-unique}
 use Rattle.model.specs.Saturation.{Algebra, Candidate, WitnessRow, witnessRow, known, keepIfNew}
 use Rattle.algorithms.specs.Automaton.{Automaton}
 use Rattle.algorithms.specs.Saturate.{Parts, parts, sameParts, algebraOf}

@@ -8,9 +8,9 @@ use mathlib.Core.Option.{none}
 use mathlib.Core.List.{List, [], _∷_, _++_, flatMap, append-nil}
 use native.Mathlib.Omega.{arith}
 use lib.ListN.{length}
-use Rattle.model.specs.Lists.{nth-lt, nth-of-lt, nth-getD}
+use Rattle.model.proofs.ListLaws.{nth-lt, nth-of-lt, nth-getD}
 use Rattle.model.specs.Saturation.{Algebra, Candidate, witnessRow, leafCandidate, classAt, nodeCandidate, firstIf, firstAccepted, known, keepIfNew, absorb}
-use Rattle.model.specs.Turns.{absorb-append, absorb-at, first-here, first-later}
+use Rattle.model.proofs.Turns.{absorb-append, absorb-at, first-here, first-later}
 use Rattle.algorithms.specs.Automaton.{Automaton}
 use Rattle.algorithms.specs.Saturate.{Parts, algebraOf}
 use Rattle.emptiness.specs.Stored.{originOf, classIn, Stored}

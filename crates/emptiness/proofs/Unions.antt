@@ -9,11 +9,12 @@ use native.Mathlib.Nat.{zero-add}
 use native.Mathlib.Numerals.{add-one}
 use lib.Dec.{eqb}
 use lib.ListN.{length, length-map}
-use Rattle.relation.specs.Bit.{bit, bit-off}
+use Rattle.relation.specs.Bit.{bit}
+use Rattle.relation.proofs.BitLaws.{bit-off}
 use Rattle.relation.specs.Rows.{noPairs, joined, imageOf}
-use Rattle.relation.specs.Pairs.{ext, has-none, has-joined, length-joined}
-use Rattle.relation.specs.Chain.{length-closed}
-use Rattle.relation.specs.Algebra.{joined-comm, joined-assoc}
+use Rattle.relation.proofs.Pairs.{ext, has-none, has-joined, length-joined}
+use Rattle.relation.proofs.ChainLaws.{length-closed}
+use Rattle.relation.proofs.Algebra.{joined-comm, joined-assoc}
 use Rattle.relation.specs.Sets.{member, member-has}
 use Rattle.refusal.proofs.Passed.{clash}
 use Rattle.model.specs.declared.Side.{Side}

@@ -14,7 +14,7 @@ use Rattle.model.specs.Demand.{Told, Correct}
 use Rattle.algorithms.specs.Automaton.{Automaton, Proper, alphabetOf}
 use Rattle.algorithms.specs.Saturate.{languageOf, saturationOf}
 use Rattle.algorithms.specs.Approximate.{clear?}
-use Rattle.algorithms.specs.Theorems.{demand-3, count-exists, count-unique}
+use Rattle.algorithms.proofs.Theorems.{demand-3, count-exists, count-unique}
 use Rattle.blocks.specs.Blocks.{content}
 use Rattle.refusal.proofs.Passed.{clash}
 use Rattle.transitions.specs.Transitions.{automatonOf}

@@ -7,7 +7,7 @@ use Prim.Native.Nat.{ℕ, _<_, _≤_}
 use lib.Dec.{ltb}
 use Rattle.model.specs.Lists.{Nth, countFrom}
 use Rattle.model.specs.Saturation.{Algebra, Candidate, nodeCandidate, firstAccepted, absorb}
-use Rattle.model.specs.FreshRows.{rights}
+use Rattle.model.specs.Fresh.{rights}
 use Rattle.algorithms.specs.Automaton.{Automaton}
 use Rattle.algorithms.specs.Saturate.{algebraOf}
 use Rattle.automaton.specs.declared.Header.{Header}

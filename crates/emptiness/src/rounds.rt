@@ -19,7 +19,7 @@ ghost use lib.Dec.{eqb, ltb};
 ghost use Rattle.relation.specs.Bit.{bit};
 ghost use Rattle.model.specs.Lists.{countFrom};
 ghost use Rattle.model.specs.Saturation.{Candidate, leafCandidate, nodeCandidate};
-ghost use Rattle.model.specs.FreshRows.{rights, freshCandidates};
+ghost use Rattle.model.specs.Fresh.{rights, freshCandidates};
 ghost use Rattle.algorithms.specs.Automaton.{Automaton, consIf, numbered, alphabetOf};
 ghost use Rattle.algorithms.specs.Saturate.{algebraOf, saturationOf};
 ghost use Rattle.overloops.specs.Tables.{Leaves};

@@ -16,8 +16,8 @@ use Rattle.overloops.proofs.Laws.{accepting-by}
 use Rattle.tree.specs.Preorder.{Writes, Below}
 use Rattle.blocks.specs.Blocks.{content}
 use Rattle.tree.specs.File.{nodesOf, nodesAfter}
-use Rattle.tree.specs.Reading.{TreeRead, nodes-front}
-use Rattle.tree.specs.Signatures.{shaped-over}
+use Rattle.tree.proofs.Reading.{TreeRead, nodes-front}
+use Rattle.tree.proofs.Signatures.{shaped-over}
 use Rattle.tree.specs.declared.file.ParsedTree.{ParsedTree}
 
 pub accepts-by : (A : Automaton) (t : Tree) (initial final : ℕ) (rows : List ℕ) (b : Bool) → A .initial ≡ initial → A .final ≡ final

@@ -6,7 +6,7 @@ use mathlib.Core.List.{List}
 use Prim.Native.Nat.{ℕ}
 use lib.Dec.{T}
 use Rattle.algorithms.specs.Overloops.{accepts?}
-use Rattle.algorithms.specs.Theorems.{demand-2}
+use Rattle.algorithms.proofs.Theorems.{demand-2}
 use Rattle.blocks.specs.Blocks.{content}
 use Rattle.refusal.proofs.Passed.{clash}
 use Rattle.refusal.specs.declared.Refusal.{Refusal}
@@ -14,8 +14,8 @@ use Rattle.transitions.specs.Transitions.{automatonOf}
 use Rattle.transitions.proofs.Meaning.{file-proper}
 use Rattle.tree.specs.File.{nodesOf}
 use Rattle.tree.specs.Nodes.{treeOf}
-use Rattle.tree.specs.Reading.{tree-read}
-use Rattle.tree.specs.Laws.{writes-one}
+use Rattle.tree.proofs.Reading.{tree-read}
+use Rattle.tree.proofs.Laws.{writes-one}
 use Rattle.membership.specs.Judged.{signatureOf, told, judgedBy, judged}
 use Rattle.membership.specs.Demand2.{Demand2}
 use Rattle.membership.specs.declared.Answer.{Answer}

@@ -15,7 +15,7 @@ use Rattle.model.specs.declared.Move.{Move}
 use Rattle.relation.specs.Rows.{noPairs, joined, composed, closed, meeting}
 use Rattle.algorithms.specs.Automaton.{Automaton, Proper}
 use Rattle.algorithms.specs.Overloops.{accepting, moves, nodeLoops, upClosure, leafOverloops, nodeOverloops}
-use Rattle.algorithms.specs.OverloopLaws.{row-moves, leaf-as-node, within-leafOverloops}
+use Rattle.algorithms.proofs.OverloopLaws.{row-moves, leaf-as-node, within-leafOverloops}
 use Rattle.blocks.specs.Blocks.{content}
 use Rattle.refusal.specs.declared.Refusal.{Refusal}
 use Rattle.automaton.specs.File.{parsed}

@@ -17,7 +17,7 @@ use Rattle.automaton.specs.File.{parsed}
 use Rattle.automaton.specs.declared.Header.{Header}
 use Rattle.automaton.specs.declared.file.Parsed.{Parsed}
 use Rattle.tally.specs.Tally.{total, countedUp}
-use Rattle.tally.specs.Counting.{counted-full, counted-one, one-more}
+use Rattle.tally.proofs.Counting.{counted-full, counted-one, one-more}
 use Rattle.tally.specs.declared.Outcome.{Outcome}
 use Rattle.tally.specs.declared.Tally.{Tally}
 use Rattle.tally.specs.declared.Tallied.{Tallied}

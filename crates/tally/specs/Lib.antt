@@ -1,4 +1,3 @@
--- Definitions: the tally after one more outcome, and the percent. Laws: the two cases of counting, and what rounding the percent is.
+-- Definitions: the tally after one more outcome, the percent, and what rounding that is.
 pub mod Tally
-pub mod Counting
 pub mod Rounding

@@ -12,7 +12,7 @@ use native.Mathlib.Omega.{arith}
 use borrow.Author.Tests.{eqb-true, eq-eqb, not-false}
 use lib.Dec.{eqb}
 use lib.Pow.{pow-pos}
-use Rattle.relation.specs.Bit.{bit-zero, bit-pow, bit-pow-eq, bit-below, or-has}
+use Rattle.relation.proofs.BitLaws.{bit-zero, bit-pow, bit-pow-eq, bit-below, or-has}
 use Rattle.relation.specs.Sets.{member, member-has}
 use Rattle.model.specs.declared.Side.{Side}
 use Rattle.model.specs.declared.Place.{Place}

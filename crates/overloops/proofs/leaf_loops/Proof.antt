@@ -2,7 +2,7 @@
 -- Assumes nothing.
 use borrow.Author.Needs.{needs}
 use mathlib.Core.Path.{sym, _∙_}
-use Rattle.algorithms.specs.OverloopLaws.{leaf-as-node}
+use Rattle.algorithms.proofs.OverloopLaws.{leaf-as-node}
 use Rattle.overloops.proofs.leaf_loops.Statement.{statement}
 use Rattle.overloops.proofs.leaf_loops.Tie as tie
 

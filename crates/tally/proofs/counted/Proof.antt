@@ -3,7 +3,7 @@
 use borrow.Author.Needs.{needs}
 use mathlib.Core.Path.{sym}
 use native.Mathlib.Omega.{arith}
-use Rattle.tally.specs.Counting.{counted-full, counted-one}
+use Rattle.tally.proofs.Counting.{counted-full, counted-one}
 use Rattle.tally.proofs.counted.Statement.{statement}
 use Rattle.tally.proofs.counted.Tie as tie
 

@@ -2,7 +2,7 @@
 -- Assumes nothing.
 use borrow.Author.Needs.{needs}
 use native.Mathlib.Omega.{arith}
-use Rattle.relation.specs.Bit.{one-shl}
+use Rattle.relation.proofs.BitLaws.{one-shl}
 use Rattle.transitions.proofs.Laws.{stepped}
 use Rattle.transitions.proofs.add_step.Statement.{statement}
 use Rattle.transitions.proofs.add_step.Tie as tie

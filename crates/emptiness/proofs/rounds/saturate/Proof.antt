@@ -6,7 +6,7 @@ use mathlib.Core.Path.{_≡_}
 use mathlib.Core.List.{List, []}
 use lib.ListN.{length}
 use Rattle.model.specs.Saturation.{Candidate}
-use Rattle.model.specs.FreshRows.{freshCandidates}
+use Rattle.model.specs.Fresh.{freshCandidates}
 use Rattle.algorithms.specs.Automaton.{Automaton, alphabetOf}
 use Rattle.algorithms.specs.Saturate.{algebraOf}
 use Rattle.overloops.specs.Tables.{Leaves}
