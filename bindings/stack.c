@@ -169,10 +169,10 @@ static const struct {
     void (*call)(void);
     size_t limit;
 } functions[] = {
-    {"engine_judge", call_judge, ENGINE_JUDGE_STACK},    {"engine_survey", call_survey, ENGINE_SURVEY_STACK},
-    {"engine_quick", call_quick, ENGINE_QUICK_STACK},    {"engine_single", call_single, ENGINE_SINGLE_STACK},
-    {"engine_count", call_count, ENGINE_COUNT_STACK},    {"engine_percent", call_percent, ENGINE_PERCENT_STACK},
-    {"engine_tally", call_tally, ENGINE_TALLY_STACK},    {"engine_report", call_report, ENGINE_REPORT_STACK},
+    {"engine_judge", call_judge, ENGINE_JUDGE_STACK}, {"engine_survey", call_survey, ENGINE_SURVEY_STACK},
+    {"engine_quick", call_quick, ENGINE_QUICK_STACK}, {"engine_single", call_single, ENGINE_SINGLE_STACK},
+    {"engine_count", call_count, ENGINE_COUNT_STACK}, {"engine_percent", call_percent, ENGINE_PERCENT_STACK},
+    {"engine_tally", call_tally, ENGINE_TALLY_STACK}, {"engine_report", call_report, ENGINE_REPORT_STACK},
 };
 
 /* ---- measuring */

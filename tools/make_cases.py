@@ -1,35 +1,19 @@
 #!/usr/bin/env python3
-"""Writes crates/cases/stdin and crates/cases/stdout: the cases, and what document 01 says of each.
+"""Writes stdin and stdout of crates/cases, or of another folder (tools/make_cases.py [FOLDER]): the cases, and what document 01 says of each.
 
 The reading below is written from document 01's table and shares nothing with the engine. Where document 01 itself gives an
 example's answer, the case states it (the last argument) and the reading is held to it."""
-import os, random, struct
+import os, random, struct, sys
+from files import blocks, letter_payload as letter, walker_payload
 
 random.seed(1)
-HERE = os.path.join(os.path.dirname(os.path.abspath(__file__)), '..', 'crates', 'cases')
+HERE = sys.argv[1] if len(sys.argv) > 1 else os.path.join(os.path.dirname(os.path.abspath(__file__)), '..', 'crates', 'cases')
 
 
 # ---- files
 
-def blocks(payload, count=None, contents=None):
-    """A file of the fewest blocks that hold the payload, or of `count` blocks."""
-    need = -(-len(payload) // 508)
-    count = need if count is None else count
-    content = bytes(payload[:508 * count]).ljust(508 * count, b'\0')
-    out = b''
-    for b in range(count):
-        c = content[508 * b:508 * b + 508]
-        out += c + struct.pack('<I', (b + 1 + sum(struct.unpack('<127I', c))) % 2 ** 32)
-    return out
-
-
-def walker(n, m, rules, start=1, final=2, branch=4, kind=87, count=None):
-    head = bytes([kind, n, m, 0]) + struct.pack('<HH', count if count is not None else len(rules), 0)
-    return bytearray(head + struct.pack('<III', start, final, branch) + b''.join(bytes(r) for r in rules))
-
-
-def letter(symbols, kind=84, count=None):
-    return bytearray(bytes([kind, 0]) + struct.pack('<H', count if count is not None else len(symbols)) + bytes(symbols))
+def walker(n, m, rules, start=1, final=2, branch=4, count=None):
+    return walker_payload(n, m, start, final, branch, rules, count=count)
 
 
 def changed(payload, *edits):

@@ -1,22 +1,14 @@
 #!/usr/bin/env python3
-"""Writes crates/report_cases: pairs of a walker file and letters, and the report that document 01 asks for on each.
+"""Writes data/ and stdout of crates/report_cases, or of another folder (tools/make_reports.py [FOLDER]): pairs of a walker file and letters, and
+the report that document 01 asks for on each.
 
 The expected lines are written down here from document 01 and share nothing with the engine. Of the cases in LARGER they are computed: by
 search over configurations, tree by tree, and the survey and the quick check word for word; where the construction of a walker or a batch
 tells a line, the case states it and the computed line is held to it."""
-import os, shutil, struct
-from twa import write_blocks as blocks
+import os, shutil, sys
+from files import CONTENT, blocks, blocks_for, letter_file as letter, letter_payload, walker_file as walker
 
-HERE = os.path.join(os.path.dirname(os.path.abspath(__file__)), '..', 'crates', 'report_cases')
-
-
-def walker(n, m, start, final, branch, rules):
-    head = struct.pack('<BBBBHHIII', 87, n, m, 0, len(rules), 0, start, final, branch)
-    return blocks(head + b''.join(bytes(r) for r in rules))
-
-
-def letter(symbols, kind=84, count=None):
-    return blocks(struct.pack('<BBH', kind, 0, len(symbols) if count is None else count) + bytes(symbols))
+HERE = sys.argv[1] if len(sys.argv) > 1 else os.path.join(os.path.dirname(os.path.abspath(__file__)), '..', 'crates', 'report_cases')
 
 
 def spoiled(file, at):
@@ -26,7 +18,7 @@ def spoiled(file, at):
 
 def filled(file, at):
     """A file of one block with a filler byte that is not zero, and the right check."""
-    return blocks(file[:at] + b'\1' + file[at + 1:508])
+    return blocks(file[:at] + b'\1' + file[at + 1:CONTENT])
 
 
 A = [(2, 0, 0, 3, 0), (2, 0, 2, 3, 0), (1, 0, 2, 1, 1), (2, 1, 2, 1, 1)]
@@ -67,7 +59,7 @@ def documents(accepted, other, refused, percent):
 
 CASES = [
     ('document 01', EXAMPLE, YES + NO, HEAD + [documents(1, 1, 0, 50)]),
-    ('25 states', blocks(struct.pack('<BBBBHHIII', 87, 25, 3, 0, 0, 0, 0, 0, 0)), YES, ['walker refused=4 place=1']),
+    ('25 states', walker(25, 3, 0, 0, 0, []), YES, ['walker refused=4 place=1']),
     ('no walker', None, YES, ['walker refused=1 place=0']),
     ('a walker that is too long', blocks(b'W' + bytes(3556)), YES, ['walker refused=1 place=0']),
     ('a wrong check', spoiled(EXAMPLE, 30), YES, ['walker refused=2 place=0']),
@@ -293,8 +285,8 @@ def changed(symbols, at, symbol):
 
 def misfilled(symbols, offset):
     """A letter whose byte at an offset, zero by the layout, is 1."""
-    payload = struct.pack('<BBH', 84, 0, len(symbols)) + bytes(symbols)
-    payload = payload.ljust(-(-len(payload) // 508) * 508, b'\0')
+    payload = letter_payload(symbols)
+    payload = payload.ljust(CONTENT * blocks_for(len(payload)), b'\0')
     return blocks(payload[:offset] + b'\1' + payload[offset + 1:])
 
 
@@ -314,7 +306,7 @@ LARGER = [
     ('rule 300 refused', refused_walker(300, (2, 0, 0, 4, 0)), letter(ACCEPTED), ['walker refused=8 place=300']),
     ('rule 399 refused', refused_walker(399, (0, 0, 1, 2, 0)), letter(ACCEPTED), ['walker refused=9 place=399']),
     ('filler refused', filled(EXAMPLE, 507), letter(ACCEPTED), ['walker refused=6 place=507']),
-    ('more rules than blocks', blocks(struct.pack('<BBBBHHIII', 87, 2, 3, 0, 512, 0, 1, 2, 4)), b'', ['walker refused=5 place=6']),
+    ('more rules than blocks', walker(2, 3, 1, 2, 4, [], count=512), b'', ['walker refused=5 place=6']),
     computed('found at height 11, rows 12', spine_of(11), [[0], [1, 0, 0], [1] * 11 + [0] * 12, [1] * 23 + [0] * 24, [1] * 12 + [0] * 13],
              ['survey found height=11 rows=12', documents(2, 3, 0, 40)]),
     computed('found at height 4, rows 5', spine_of(4), [[1] * 4 + [0] * 5], ['survey found height=4 rows=5', documents(1, 0, 0, 100)]),
@@ -337,6 +329,11 @@ LARGER = [
 ]
 
 
+def write(name, data):
+    with open(os.path.join(HERE, name), 'wb') as file:
+        file.write(data)
+
+
 def main():
     data = os.path.join(HERE, 'data')
     shutil.rmtree(data, ignore_errors=True)
@@ -344,10 +341,10 @@ def main():
     lines = []
     for number, (name, automaton, letters, expected) in enumerate(CASES + LARGER):
         if automaton is not None:
-            open(os.path.join(data, f'{number:02}.walker'), 'wb').write(automaton)
-        open(os.path.join(data, f'{number:02}.letters'), 'wb').write(letters)
+            write(f'data/{number:02}.walker', automaton)
+        write(f'data/{number:02}.letters', letters)
         lines += [f'case {number:02}'] + expected
-    open(os.path.join(HERE, 'stdout'), 'w').write('\n'.join(lines) + '\n')
+    write('stdout', ('\n'.join(lines) + '\n').encode())
 
 
 if __name__ == '__main__':

@@ -1,11 +1,11 @@
 #!/usr/bin/env python3
 """Tests tools/twa.py as its users call it: both sides of each limit, and that bad input gets a line and a reason and leaves the output as
 it was."""
-import os, struct, subprocess, sys, tempfile, unittest
+import os, subprocess, sys, tempfile, unittest
 
 HERE = os.path.dirname(os.path.abspath(__file__))
 sys.path.insert(0, HERE)
-from twa import write_blocks
+from files import blocks
 
 SAMPLES = os.path.join(HERE, '..', 'samples')
 HEAD = ['states look done', 'symbols text annex then*', 'start look', 'final done']
@@ -185,10 +185,10 @@ class Doors(unittest.TestCase):
         payload = lambda *edits: bytes(dict(edits).get(i, byte) for i, byte in enumerate(file[:508]))
         for damaged, reason in [
                 (b'', 'refused=1 place=0'), (file[:511], 'refused=1 place=0'), (file + file, 'refused=2 place=1'), (file[:40] + b'\1' + file[41:], 'refused=2 place=0'),
-                (write_blocks(payload((0, 85))), 'refused=3 place=0'), (write_blocks(payload((1, 25))), 'refused=4 place=1'), (write_blocks(payload((2, 0))), 'refused=4 place=2'),
-                (write_blocks(payload((5, 3))), 'refused=4 place=4'), (write_blocks(payload((4, 98))), 'refused=5 place=2'), (write_blocks(payload((3, 1))), 'refused=6 place=3'),
-                (write_blocks(payload((30, 1))), 'refused=6 place=30'), (write_blocks(payload((12, 4))), 'refused=7 place=12'), (write_blocks(payload((28, 4))), 'refused=8 place=1'),
-                (write_blocks(payload((27, 3))), 'refused=9 place=1')]:
+                (blocks(payload((0, 85))), 'refused=3 place=0'), (blocks(payload((1, 25))), 'refused=4 place=1'), (blocks(payload((2, 0))), 'refused=4 place=2'),
+                (blocks(payload((5, 3))), 'refused=4 place=4'), (blocks(payload((4, 98))), 'refused=5 place=2'), (blocks(payload((3, 1))), 'refused=6 place=3'),
+                (blocks(payload((30, 1))), 'refused=6 place=30'), (blocks(payload((12, 4))), 'refused=7 place=12'), (blocks(payload((28, 4))), 'refused=8 place=1'),
+                (blocks(payload((27, 3))), 'refused=9 place=1')]:
             self.told('walker ' + reason, 'show', self.path('file', damaged))
 
     def test_show_letters(self):
@@ -196,7 +196,7 @@ class Doors(unittest.TestCase):
         self.assertEqual(len(file), 2048)
         status, out, _ = self.run_twa('show', self.path('file', file))
         self.assertEqual((status, out.split(b'\n')[0], out.split(b'\n')[2:]), (0, b'0', [b'2 0 1', b'']))
-        letter = lambda head, *symbols: write_blocks(struct.pack('<BBH', *head) + bytes(symbols))
+        letter = lambda head, *symbols: blocks(bytes([*head[:2], *head[2].to_bytes(2, 'little'), *symbols]))
         for end, reason in [
                 (file[:300], 'the file stops inside a letter, 300 bytes'), (file[512:1300], 'the file stops inside a letter of 1024 bytes, 788 bytes'),
                 (file[:20] + b'\1' + file[21:], 'refused=2 place=0'), (file[512:1100] + b'\1' + file[1101:1536], 'refused=2 place=1'), (letter((87, 0, 1), 0), 'refused=3'),

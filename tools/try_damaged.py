@@ -4,6 +4,7 @@ print either one line that refuses the walker or document 01's four lines. Build
 
 This is a test from outside; that the program ends and refuses by the table is what is proved."""
 import os, random, re, subprocess, sys, tempfile
+from files import with_checks
 
 HERE = os.path.join(os.path.dirname(os.path.abspath(__file__)), '..')
 PROGRAM = os.path.join(HERE, 'target', 'bin', 'report')
@@ -11,16 +12,6 @@ REFUSED = re.compile(rb'walker refused=\d+ place=\d+\n\Z')
 REPORT = re.compile(
     rb'walker states=\d+ symbols=\d+ rules=\d+ single=(yes|no)\nquick (clear|unsure)\n'
     rb'survey (found|open|empty) height=\d+ rows=\d+\ndocuments accepted=\d+ other=\d+ refused=\d+ percent=\d+\n\Z')
-
-
-def block_checks(file):
-    """The file with every block's check made right."""
-    out = b''
-    for b in range(len(file) // 512):
-        content = file[512 * b:512 * b + 508]
-        total = b + 1 + sum(int.from_bytes(content[i:i + 4], 'little') for i in range(0, 508, 4))
-        out += content + (total % 2 ** 32).to_bytes(4, 'little')
-    return out + file[512 * (len(file) // 512):]
 
 
 def damaged(file, draw):
@@ -33,7 +24,7 @@ def damaged(file, draw):
             file[draw.randrange(min(len(file), draw.choice([24, 600, len(file)])))] = draw.randrange(256)
     if kind == 1:
         del file[draw.randrange(len(file) + 1):]
-    return block_checks(bytes(file)) if kind > 2 else bytes(file)
+    return with_checks(bytes(file)) if kind > 2 else bytes(file)
 
 
 def main(count):

@@ -22,6 +22,7 @@ was written, 1 where it was not, with the line and the reason, and 2 where the c
 
 This program is for people and for tests. It is not part of what is proved, and the engine shares nothing with it."""
 import os, re, stat, struct, sys
+from files import blocks_for, check_of, contents, letter_file, walker_file
 
 PLACES = ['root', 'left', 'right', 'any']
 MOVES = ['stay', 'up', 'left', 'right']
@@ -41,28 +42,6 @@ class Lost(Exception):
 
 def bad_line(number, reason):
     return Bad(f'line {number}: {reason}')
-
-
-# ---- blocks
-
-def check_of(content, block):
-    return struct.pack('<I', (block + 1 + sum(struct.unpack('<127I', content))) % 2 ** 32)
-
-
-def write_blocks(payload):
-    file = b''
-    for b in range(-(-len(payload) // 508)):
-        content = payload[508 * b:508 * b + 508].ljust(508, b'\0')
-        file += content + check_of(content, b)
-    return file
-
-
-def contents(file):
-    return b''.join(file[at:at + 508] for at in range(0, len(file), 512))
-
-
-def blocks_for(payload_bytes):
-    return -(-payload_bytes // 508)
 
 
 # ---- names
@@ -147,10 +126,8 @@ class Walker:
         return rule
 
     def file(self):
-        bits = lambda numbers: sum(1 << i for i in numbers)
-        head = struct.pack('<BBBBHH', 87, len(self.states), len(self.symbols), 0, len(self.rules), 0)
-        sets = struct.pack('<III', bits(self.start), bits(self.final), bits(self.branches))
-        return write_blocks(head + sets + b''.join(bytes(rule) for rule in self.rules))
+        sets = [sum(1 << i for i in numbers) for numbers in (self.start, self.final, self.branches)]
+        return walker_file(len(self.states), len(self.symbols), *sets, self.rules)
 
 
 def misplaced(rule, branches):
@@ -233,8 +210,7 @@ class Tree:
 def letters(walker, text):
     file = []
     for number, words in text_lines(text):
-        symbols = Tree(walker, number).read(re.findall(r'[^\s(),]+|[(),]', ' '.join(words)))
-        file.append(write_blocks(struct.pack('<BBH', 84, 0, len(symbols)) + bytes(symbols)))
+        file.append(letter_file(Tree(walker, number).read(re.findall(r'[^\s(),]+|[(),]', ' '.join(words)))))
     if not file:
         raise Bad('no tree is in it')
     return b''.join(file)

@@ -68,7 +68,7 @@ fn compare_one(seed: u64, counts: &mut Counts) -> Result<(), String> {
     let mut random = Random::new(seed);
     let automaton = small_automaton(&mut random);
     let mut file = automaton.write();
-    if seed % 8 == 0 {
+    if seed.is_multiple_of(8) {
         damage(&mut file, &mut random);
     }
     let Some(judges) = Judges::prepare(&file)? else {

@@ -28,7 +28,7 @@ pub fn write(payload: &[u8]) -> Vec<u8> {
 
 /// The joined contents of a file of at most `most` bytes. Refusals 1 and 2.
 pub fn join(file: &[u8], most: usize) -> Result<Vec<u8>, Refusal> {
-    if file.is_empty() || file.len() % BLOCK != 0 || file.len() > most {
+    if file.is_empty() || !file.len().is_multiple_of(BLOCK) || file.len() > most {
         return refused(1, 0);
     }
     let mut joined = Vec::with_capacity(file.len());

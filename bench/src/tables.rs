@@ -74,18 +74,18 @@ fn row_if(set: u32, state: usize, row: u32) -> u32 {
 #[inline(always)]
 fn close(table: &mut Table) {
     let (mut entered, mut left) = (0, 0);
-    for p in 0..MOST_STATES {
-        let others = table[p] & !(1 << p);
+    for (p, &row) in table.iter().enumerate() {
+        let others = row & !(1 << p);
         entered |= others;
         left |= if others == 0 { 0 } else { 1 << p };
     }
-    for p in 0..MOST_STATES {
-        table[p] |= 1 << p;
+    for (p, row) in table.iter_mut().enumerate() {
+        *row |= 1 << p;
     }
     for through in numbers(entered & left) {
-        let row = table[through];
-        for p in 0..MOST_STATES {
-            table[p] |= row_if(table[p], through, row);
+        let onward = table[through];
+        for row in table.iter_mut() {
+            *row |= row_if(*row, through, onward);
         }
     }
 }

@@ -1,6 +1,6 @@
 //! The functions of libengine.a. Nothing checks these declarations against their source (crates/engine/src/numbers.rt), so they stand here
 //! alone. None asks more of its caller than what Rust's references promise: a slice is a pointer, never null, and a length, and what is
-//! written to overlaps nothing else.
+//! written to overlaps nothing else. None keeps a pointer after the call.
 use crate::Tally;
 
 /// The three numbers told with an answer.
@@ -47,30 +47,37 @@ fn telling(call: impl FnOnce(*mut Told) -> u32) -> (u32, Told) {
 }
 
 pub fn judge(automaton: &[u8], tree: &[u8]) -> (u32, Told) {
+    // SAFETY: both pointers are of slices, with their lengths; `told` is written to, and is the call's own.
     telling(|told| unsafe { engine_judge(automaton.as_ptr(), automaton.len(), tree.as_ptr(), tree.len(), told) })
 }
 
 pub fn survey(file: &[u8], plan: &mut [u8]) -> (u32, Told) {
+    // SAFETY: both pointers are of slices, with their lengths; `plan` is lent to be written to, and `told` is the call's own.
     telling(|told| unsafe { engine_survey(file.as_ptr(), file.len(), plan.as_mut_ptr(), plan.len(), told) })
 }
 
 pub fn quick(file: &[u8]) -> (u32, Told) {
+    // SAFETY: the pointer is of a slice, with its length; `told` is written to, and is the call's own.
     telling(|told| unsafe { engine_quick(file.as_ptr(), file.len(), told) })
 }
 
 pub fn single(file: &[u8]) -> (u32, Told) {
+    // SAFETY: the pointer is of a slice, with its length; `told` is written to, and is the call's own.
     telling(|told| unsafe { engine_single(file.as_ptr(), file.len(), told) })
 }
 
 pub fn count(tally: &mut [u32; 3], outcome: u32) -> (u32, Told) {
+    // SAFETY: `tally` is three numbers, lent to be written to; `told` is the call's own.
     telling(|told| unsafe { engine_count(tally, outcome, told) })
 }
 
 pub fn percent(tally: Tally) -> u32 {
+    // SAFETY: two numbers go in and one comes out; there is no pointer.
     unsafe { engine_percent(tally.accepted, tally.other) }
 }
 
 pub fn tally(automaton: &[u8], trees: &[u8], tally: &mut [u32; 3]) -> (u32, Told) {
+    // SAFETY: both pointers are of slices, with their lengths; `tally` is three numbers, lent to be written to, and `told` is the call's own.
     telling(|told| unsafe {
         engine_tally(automaton.as_ptr(), automaton.len(), trees.as_ptr(), trees.len(), tally, told)
     })
@@ -78,6 +85,7 @@ pub fn tally(automaton: &[u8], trees: &[u8], tally: &mut [u32; 3]) -> (u32, Told
 
 pub fn report(automaton: &[u8], trees: &[u8]) -> Vec<u8> {
     let mut text = [0; REPORT];
+    // SAFETY: both pointers are of slices, with their lengths; `text` has the bytes that a report may take, and is the call's own.
     let length = unsafe { engine_report(automaton.as_ptr(), automaton.len(), trees.as_ptr(), trees.len(), &mut text) };
     text[..length].to_vec()
 }

@@ -20,7 +20,7 @@ fn small_case(seed: u64) -> (Vec<u8>, Vec<Vec<u8>>) {
     let mut random = Random::new(seed);
     let automaton = small_automaton(&mut random);
     let mut file = automaton.write();
-    if seed % 4 == 0 {
+    if seed.is_multiple_of(4) {
         damage(&mut file, &mut random);
     }
     let trees = (0..TREES).map(|_| small_tree_file(&automaton, &mut random)).collect();

@@ -122,7 +122,7 @@ fn sizes() {
 fn low_tree(nodes: usize, symbols: &mut Vec<u8>) {
     symbols.push(u8::from(nodes == 1));
     if nodes > 1 {
-        let left = (nodes - 1) / 2 | 1;
+        let left = ((nodes - 1) / 2) | 1;
         low_tree(left, symbols);
         low_tree(nodes - 1 - left, symbols);
     }
