@@ -4,7 +4,7 @@ use mathlib.Core.Path.{_≡_, refl, sym, ap, _∙_}
 use mathlib.Core.Bool.{Bool, true, false}
 use mathlib.Core.List.{List, [], _∷_, _++_}
 use native.Mathlib.Omega.{arith}
-use lib.ListN.{length, take, drop, length-append}
+use lib.ListN.{length, take, length-append}
 use lib.Seq.{take-append-le, take-at, drop-at}
 use Rattle.refusal.specs.declared.Check.{Check}
 use Rattle.refusal.specs.declared.Refusal.{Refusal}
@@ -22,7 +22,6 @@ use Rattle.tally.specs.declared.Tally.{Tally}
 use Rattle.tally.specs.declared.Outcome.{Outcome}
 use Rattle.batch.specs.Batch.{fileBlocks, firstLength, outcomeOf, endsBatch, judgedTurn, turnOf, taken, nextIn, restOf, goingOn, batchOf}
 use Rattle.batch.proofs.Lengths.{file-length}
-use Rattle.batch.specs.declared.Turn.{Turn}
 use Rattle.batch.proofs.Laws.{some-block, turn-none, turn-whole, batch-next}
 
 -- files of the length that their first block tells, none of which ends the batch

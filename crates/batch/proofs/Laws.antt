@@ -1,13 +1,13 @@
 -- Laws of the number of blocks of a file, of the first file, and of the batch. Assumes nothing.
-use Prim.Native.Nat.{ℕ, zero, suc, _+_, _-_, _*_, _/_, _≤_, _<_}
-use mathlib.Core.Path.{_≡_, refl, sym, ap, subst, _∙_}
-use mathlib.Core.Bool.{Bool, true, false, not, cond, _&&_}
-use mathlib.Core.List.{List, [], _∷_, _++_}
+use Prim.Native.Nat.{ℕ, zero, suc, _+_, _*_, _/_, _≤_, _<_}
+use mathlib.Core.Path.{_≡_, refl, sym, ap, _∙_}
+use mathlib.Core.Bool.{Bool, true, false, cond, _&&_}
+use mathlib.Core.List.{List}
 use native.Mathlib.Omega.{arith}
-use borrow.Author.Tests.{eqb-true, eqb-false, ltb-true, ltb-false, eq-eqb, ne-eqb, lt-ltb, le-ltb, le-leb, lt-leb}
+use borrow.Author.Tests.{eqb-false, ltb-false, eq-eqb, ne-eqb, lt-ltb, le-ltb, le-leb, lt-leb}
 use lib.Dec.{eqb, ltb, leb}
 use lib.ListN.{length, getD, take, drop, length-drop, drop-of-length-le}
-use lib.Seq.{take-all, drop-drop, drop-length}
+use lib.Seq.{drop-drop, drop-length}
 use Rattle.blocks.specs.Blocks.{content}
 use Rattle.refusal.specs.declared.Check.{Check}
 use Rattle.refusal.specs.declared.Refusal.{Refusal}
@@ -21,7 +21,7 @@ use Rattle.tally.specs.Tally.{countedUp}
 use Rattle.tally.specs.declared.Tally.{Tally}
 use Rattle.tally.specs.declared.Tallied.{Tallied}
 use Rattle.tally.specs.declared.Outcome.{Outcome}
-use Rattle.batch.specs.Batch.{blocksOf, fileBlocks, firstLength, judgedTurn, cutOff, turnBy, turnOf, passes, Next, taken, nextIn, restOf, goingOn, batchWithin, batchOf, talliedOf}
+use Rattle.batch.specs.Batch.{blocksOf, fileBlocks, firstLength, judgedTurn, cutOff, turnBy, turnOf, passes, taken, nextIn, restOf, goingOn, batchWithin, batchOf, talliedOf}
 use Rattle.batch.specs.declared.Turn.{Turn}
 
 -- ---- the length of a file

@@ -2,7 +2,6 @@
 -- accepted and are not new. It tells the same: `fresh-saturation` of FreshRows.
 use Prim.Native.Nat.{ℕ, zero, suc, _-_}
 use mathlib.Core.Bool.{Bool, true, false}
-use mathlib.Core.Option.{some}
 use mathlib.Core.List.{List, [], map, flatMap}
 use lib.ListN.{length}
 use lib.Dec.{ltb}
@@ -10,7 +9,6 @@ use Rattle.model.specs.Lists.{countFrom}
 use Rattle.model.specs.Counting.{Alphabet}
 use Rattle.model.specs.Saturation.{Algebra, Candidate, Verdict, Unended, Outcome, leafCandidate, nodeCandidate}
 use Rattle.model.specs.Saturation.{candidates, firstAccepted, absorb, conclude, round, after}
-use Rattle.model.specs.Saturation.{rounds, saturation}
 
 -- ---- the rounds
 

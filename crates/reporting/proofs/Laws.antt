@@ -22,7 +22,7 @@ use Rattle.tally.specs.declared.Outcome.{Outcome}
 use Rattle.tally.specs.declared.Tally.{Tally}
 use Rattle.tally.specs.declared.Tallied.{Tallied}
 use Rattle.batch.specs.Batch.{fileBlocks, firstLength, turnOf, passes, taken, nextIn, nothingCounted}
-use Rattle.batch.specs.Turns.{Went, begun, turn, Ended}
+use Rattle.batch.specs.Turns.{Went, begun, turn}
 use Rattle.batch.specs.declared.Turn.{Turn}
 use Rattle.batch.proofs.Laws.{some-block, more-whole}
 use Rattle.text.specs.Appended.{Appended}

@@ -1,6 +1,5 @@
 -- What rounding the percent is: r - 1/2 ≤ 100 a / d < r + 1/2, so the nearest number, and the upper one at a half.
 use Prim.Native.Nat.{ℕ, _+_, _*_, _<_, _≤_}
-use Rattle.tally.specs.Tally.{nearest}
 
 -- r - 1/2 ≤ 100 a / d < r + 1/2, times 2 d
 pub record Rounded (a d r : ℕ) : Type 0 where

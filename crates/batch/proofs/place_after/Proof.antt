@@ -4,7 +4,7 @@ use borrow.Author.Needs.{needs}
 use Rattle.batch.proofs.Laws.{place-last, place-next}
 use native.Mathlib.Omega.{arith}
 use Prim.Native.Nat.{_≤_, _<_}
-use mathlib.Core.Path.{_≡_, ap, _∙_}
+use mathlib.Core.Path.{ap, _∙_}
 use lib.ListN.{length, drop, length-drop}
 use Rattle.batch.specs.Batch.{firstLength}
 use Rattle.batch.proofs.place_after.Statement.{statement}

@@ -4,7 +4,7 @@ use borrow.Author.Needs.{needs}
 use Prim.Native.Nat.{_-_, _≤_}
 use Rattle.reporting.specs.Trace.{read-gave}
 use native.Mathlib.Omega.{arith}
-use lib.ListN.{length, drop, length-take, length-drop}
+use lib.ListN.{drop, length-take, length-drop}
 use borrow.Rule.Slice.PartMut.{take-put}
 use Rattle.reporting.proofs.read_part.Statement.{statement}
 use Rattle.reporting.proofs.read_part.Tie as tie

@@ -1,7 +1,6 @@
 -- `tree::nodes::path_after` meets its contract: the tests pick the case of the definition.
 -- Assumes nothing.
 use borrow.Author.Needs.{needs}
-use native.Mathlib.Omega.{arith}
 use borrow.Author.Tests.{lt-ltb, le-ltb}
 use Rattle.tree.specs.Scan.{pathAfter}
 use Rattle.tree.proofs.nodes.path_after.Statement.{statement}

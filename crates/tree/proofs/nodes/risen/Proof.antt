@@ -1,9 +1,8 @@
 -- `tree::nodes::risen` meets its contract: the zeros at the number's end are the depths at which nothing waits.
 -- Assumes nothing.
-use borrow.Author.Needs.{needs}
 use Prim.Native.Nat.{ℕ, _<_, _^_}
 use native.Mathlib.Omega.{arith}
-use mathlib.Core.Path.{_≡_, sym, ap, _∙_}
+use mathlib.Core.Path.{sym, ap, _∙_}
 use lib.Count.{trailingZeros}
 use Rattle.tree.specs.Scan.{risenFrom}
 use Rattle.tree.proofs.Paths.{Up, up, risen-none}
