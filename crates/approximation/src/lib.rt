@@ -1,10 +1,10 @@
 // The approximation of an automaton's overloops by three sets of pairs, the paper's third algorithm (document 01's quick check): the least
 // that hold the overloops of all leaves and what nodes form of them. A `Class` serves as the pair of the left and the right set.
+use algorithms::is_branch;
+use automaton::Header;
 use classes::Class;
 use classes::leaf_class;
 use classes::node_class;
-use algorithms::is_branch;
-use automaton::Header;
 use model::Place;
 use model::Symbol;
 use overloops::leaf_loops;

@@ -1,15 +1,15 @@
 // What emptiness answers to an automaton's file: the survey, with a plan in a lent buffer, and the quick check.
 use crate::Quick;
 use crate::Survey;
-use approximation::is_clear;
 use crate::plan::write_plan;
-use saturation::Verdict;
-use saturation::saturate;
+use approximation::is_clear;
 use automaton::Header;
 use automaton::file::Parsed;
 use refusal::Check;
 use refusal::Fault;
 use refusal::refused;
+use saturation::Verdict;
+use saturation::saturate;
 ghost use mathlib.Core.Path.{_≡_};
 ghost use Prim.Native.Nat.{_≤_};
 ghost use lib.ListN.{length};

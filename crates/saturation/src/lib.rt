@@ -1,16 +1,16 @@
 // The rounds of the saturation, document 01's survey. A round tries its candidates in order: each is tested for acceptance, and kept as a
 // row if its class is new. Only candidates over some row of the last round are tried, since all others were tried before.
+use algorithms::is_branch;
+use automaton::Header;
 use classes::leaf_accepted;
 use classes::leaf_class;
 use classes::node_accepted;
 use classes::node_class;
+use model::Symbol;
 use representatives::Origin;
 use representatives::Row;
 use representatives::class_at;
 use representatives::keep;
-use algorithms::is_branch;
-use automaton::Header;
-use model::Symbol;
 ghost use mathlib.Core.Path.{_≡_};
 ghost use mathlib.Core.List.{List, [], _∷_, map, flatMap};
 ghost use Prim.Native.Nat.{ℕ, _-_, _<_, _≤_};
