@@ -1,19 +1,19 @@
 // Compares the engine with a brute-force run on pairs of an automaton and a tree by chance. A pair is made from its number alone, as data;
 // the brute force works on the data, the engine on the two files that are written from it. Some files are damaged, and have to be refused.
 // It writes the verdicts that the brute force gives for each family of automata and each shape of trees, and how often the engine differs.
-use generated::access::number;
 use generated::families;
-use generated::files;
-use generated::random::chance;
-use generated::random::draw;
-use generated::random::seed;
-use generated::report::count;
-use generated::report::labelled;
-use generated::report::text;
-use generated::rules::Automaton;
-use generated::trees;
-use generated::walk;
 use membership::Answer;
+use sampling::access::number;
+use sampling::random::chance;
+use sampling::random::draw;
+use sampling::random::seed;
+use sampling::report::count;
+use sampling::report::labelled;
+use sampling::report::text;
+use sampling::rules::Automaton;
+use search::files;
+use search::trees;
+use search::walk;
 
 // The pairs of each family.
 const PAIRS: usize = 3000;

@@ -17,12 +17,12 @@ use Rattle.refusal.specs.Checks.{refuseIf}
 use Rattle.refusal.specs.declared.Check.{Check}
 use Rattle.refusal.specs.declared.Fault.{Fault}
 use Rattle.refusal.proofs.Passed.{clash}
-use Rattle.emptiness.specs.Stored.{originOf, originIn, originsIn}
+use Rattle.representatives.specs.Stored.{originOf, originIn, originsIn}
 use Rattle.emptiness.specs.Surveyed.{planBytes, told, written, bufferCheck}
-use Rattle.emptiness.specs.Ends.{verdictOf, FoundFew}
+use Rattle.saturation.specs.Ends.{verdictOf, FoundFew}
 use Rattle.emptiness.specs.declared.Survey.{Survey}
-use Rattle.emptiness.specs.declared.rows.Origin.{Origin}
-use Rattle.emptiness.specs.declared.rounds.Verdict.{Verdict}
+use Rattle.representatives.specs.declared.Origin.{Origin}
+use Rattle.saturation.specs.declared.Verdict.{Verdict}
 
 pub bytes-length : (p : List WitnessRow) → length (planBytes p) ≡ 3 * length p
 bytes-length [] = refl

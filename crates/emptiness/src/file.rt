@@ -1,22 +1,22 @@
 // What emptiness answers to an automaton's file: the survey, with a plan in a lent buffer, and the quick check.
 use crate::Quick;
 use crate::Survey;
-use crate::approximation::is_clear;
 use crate::plan::write_plan;
-use crate::rounds::Verdict;
-use crate::rounds::saturate;
+use approximation::is_clear;
 use automaton::Header;
 use automaton::file::Parsed;
 use refusal::Check;
 use refusal::Fault;
 use refusal::refused;
+use saturation::Verdict;
+use saturation::saturate;
 ghost use mathlib.Core.Path.{_≡_};
 ghost use Prim.Native.Nat.{_≤_};
 ghost use lib.ListN.{length};
 ghost use Rattle.algorithms.specs.Automaton.{Automaton};
 ghost use Rattle.algorithms.specs.Saturate.{saturationOf};
 ghost use Rattle.overloops.specs.Tables.{Leaves};
-ghost use Rattle.emptiness.specs.Tries.{Read};
+ghost use Rattle.saturation.specs.Tries.{Read};
 ghost use Rattle.emptiness.specs.Surveyed.{bufferCheck, outcome, told, written, surveyed};
 ghost use Rattle.emptiness.specs.Checked.{checked};
 ghost use Rattle.emptiness.specs.Demand3.{Demand3, Demand3Quick};

@@ -1,11 +1,7 @@
 // Emptiness: whether an automaton accepts any tree. `file` has the two public functions, document 01's survey and quick check; specs/ has the
-// definitions of their answers, and the proof that these meet demand 3.
-mod approximation;
-mod class;
+// definitions of their answers, and the proof that these meet demand 3. The rounds are the crate `saturation`, the least sets `approximation`.
 pub mod file;
 mod plan;
-mod rounds;
-mod rows;
 
 use refusal::Refusal;
 

@@ -1,12 +1,12 @@
 // The plan of a survey, written into a lent buffer: three bytes a row.
-use crate::rows::Origin;
-use crate::rows::Row;
-use crate::rows::origin_at;
+use representatives::Origin;
+use representatives::Row;
+use representatives::origin_at;
 ghost use mathlib.Core.Path.{_≡_};
 ghost use mathlib.Core.List.{[], _∷_, _++_};
 ghost use Prim.Native.Nat.{_+_, _*_, _≤_};
 ghost use lib.ListN.{length, take, drop};
-ghost use Rattle.emptiness.specs.Stored.{originOf, originsIn};
+ghost use Rattle.representatives.specs.Stored.{originOf, originsIn};
 ghost use Rattle.emptiness.specs.Surveyed.{planBytes};
 
 // Writes a row.

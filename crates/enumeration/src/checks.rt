@@ -1,19 +1,12 @@
 // Whether the answers of the survey and the quick check agree with the list of trees.
-use crate::lists;
-use crate::lists::List;
-use crate::plan;
 use emptiness::Quick;
 use emptiness::Survey;
-use generated::access::number;
-use generated::rules::Automaton;
+use enumerated::lists;
+use enumerated::lists::List;
+use enumerated::plan;
 use refusal::Refusal;
-
-// The answers to one automaton's file, and whether they are right.
-pub struct Outcome {
-    pub survey: Survey,
-    pub quick: Quick,
-    pub right: bool,
-}
+use sampling::access::number;
+use sampling::rules::Automaton;
 
 // N(h - 1), the number of classes of trees of heights below h.
 fn below(classes: &[usize], h: usize) -> usize {

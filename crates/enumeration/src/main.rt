@@ -2,27 +2,24 @@
 // and the tree judged by runs; and all trees of small heights are listed and judged, which tells the least height of an accepted tree and, by
 // the overloops of runs, how many classes there are. Some buffers are too short and some files damaged, and have to be refused. It writes the
 // verdicts for each family of automata, the heights found, document 01's case of 256 classes, and how often an answer was wrong.
-mod brute;
 mod checks;
-mod functions;
-mod lists;
-mod plan;
-mod rows;
-mod small;
 
-use checks::Outcome;
 use emptiness::Quick;
 use emptiness::Survey;
-use generated::access::number;
-use generated::files;
-use generated::random::chance;
-use generated::random::draw;
-use generated::random::seed;
-use generated::report::count;
-use generated::report::labelled;
-use generated::report::text;
-use generated::rules::Automaton;
+use enumerated::lists;
+use enumerated::plan;
+use enumerated::small;
 use refusal::Refusal;
+use sampling::access::number;
+use sampling::random::chance;
+use sampling::random::draw;
+use sampling::random::seed;
+use sampling::report::count;
+use sampling::report::labelled;
+use sampling::report::text;
+use sampling::rules::Automaton;
+use search::files;
+use transformations::Outcome;
 
 // The automata of each family.
 const AUTOMATA: usize = 1000;
@@ -222,19 +219,19 @@ fn run_passes(counts: &mut [usize], heights: &[usize]) {
             counts,
             ALL + values,
             small::FAMILIES,
-            functions::passes(heights, values),
+            transformations::passes(heights, values),
         );
     }
 }
 
 // The case of 256 classes.
 fn run_functions(counts: &mut [usize], heights: &[usize]) {
-    let answer = functions::surveyed();
-    labelled(b"", functions::made(heights, 254));
+    let answer = transformations::surveyed();
+    labelled(b"", transformations::made(heights, 254));
     text(b" classes: ");
     print_survey(answer);
     text(b"\n");
-    let full = functions::full_height(heights);
+    let full = transformations::full_height(heights);
     match answer {
         Survey::Open(h) => {
             if h != full {
@@ -282,7 +279,7 @@ fn print_heights(counts: &[usize]) {
 fn main() {
     let mut counts = [0usize; 65];
     let mut heights = [255usize; 256];
-    functions::make_all(&mut heights);
+    transformations::make_all(&mut heights);
     run(&mut counts);
     run_passes(&mut counts, &heights);
     print_families(&counts);

@@ -1,16 +1,16 @@
 // Families of automata by chance.
-use crate::access::modulo;
-use crate::access::only;
-use crate::counting::counting;
 use crate::guided::Style;
 use crate::guided::along_walk;
-use crate::random::chance;
-use crate::random::draw;
-use crate::random::subset;
-use crate::rules;
-use crate::rules::Automaton;
-use crate::rules::Rule;
-use crate::sided::sided;
+use sampling::access::modulo;
+use sampling::access::only;
+use sampling::counting::counting;
+use sampling::random::chance;
+use sampling::random::draw;
+use sampling::random::subset;
+use sampling::rules;
+use sampling::rules::Automaton;
+use sampling::rules::Rule;
+use sampling::sided::sided;
 
 // At most one rule for each symbol, state and place.
 const DETERMINISTIC: usize = 0;

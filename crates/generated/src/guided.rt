@@ -1,13 +1,13 @@
 // Automata whose rules are made along a walk through the tree, so that runs go somewhere.
-use crate::access::only;
-use crate::random::chance;
-use crate::random::draw;
-use crate::random::subset;
-use crate::rules;
-use crate::rules::Automaton;
-use crate::rules::Rule;
-use crate::trees;
-use crate::walk::target;
+use sampling::access::only;
+use sampling::random::chance;
+use sampling::random::draw;
+use sampling::random::subset;
+use sampling::rules;
+use sampling::rules::Automaton;
+use sampling::rules::Rule;
+use search::trees;
+use search::walk::target;
 
 // How rules are made along a walk: at most one for each symbol, state and place; place 3 in so many of eight.
 pub struct Style {

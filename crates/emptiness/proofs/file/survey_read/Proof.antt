@@ -4,7 +4,7 @@ use borrow.Author.Needs.{needs}
 use mathlib.Core.Path.{refl}
 use native.Mathlib.Omega.{arith}
 use Rattle.algorithms.specs.Saturate.{saturationOf}
-use Rattle.emptiness.specs.declared.rounds.Verdict.{Verdict}
+use Rattle.saturation.specs.declared.Verdict.{Verdict}
 use Rattle.emptiness.proofs.Planning.{answered, found-few}
 use Rattle.emptiness.proofs.file.survey_read.Statement.{statement}
 use Rattle.emptiness.proofs.file.survey_read.Tie as tie

@@ -7,7 +7,7 @@ use mathlib.Core.List.{List, [], _∷_, append-assoc}
 use native.Mathlib.Numerals.{add-one}
 use lib.ListN.{length, take, drop, length-set}
 use lib.Seq.{paste, paste-zero, paste-suc}
-use Rattle.emptiness.specs.declared.rows.Origin.{Origin}
+use Rattle.representatives.specs.declared.Origin.{Origin}
 use Rattle.emptiness.proofs.plan.put_row.Statement.{statement}
 use Rattle.emptiness.proofs.plan.put_row.Tie as tie
 

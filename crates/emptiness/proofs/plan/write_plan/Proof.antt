@@ -6,7 +6,7 @@ use mathlib.Core.Path.{_≡_, refl}
 use mathlib.Core.List.{_++_}
 use lib.ListN.{length, drop}
 use Rattle.model.specs.Lists.{countFrom}
-use Rattle.emptiness.specs.Stored.{originOf, originsIn}
+use Rattle.representatives.specs.Stored.{originOf, originsIn}
 use Rattle.emptiness.specs.Surveyed.{planBytes}
 use Rattle.emptiness.proofs.Planning.{plan-more, origins-length, plan-step}
 use Rattle.emptiness.proofs.plan.write_plan.Statement.{statement}

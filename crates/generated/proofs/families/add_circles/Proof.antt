@@ -1,4 +1,4 @@
--- `generated::families::add_circles` ends, after one turn for each circle.
+-- `crate::families::add_circles` ends, after one turn for each circle.
 -- Assumes nothing.
 use borrow.Author.Needs.{needs}
 use Prim.Native.Nat.{_-_, _≤_}

@@ -1,4 +1,4 @@
--- `generated::guided::walk_on` ends, after one turn for each step.
+-- `crate::guided::walk_on` ends, after one turn for each step.
 -- Assumes nothing.
 use borrow.Author.Needs.{needs}
 use Prim.Native.Nat.{_-_, _≤_}

@@ -1,0 +1,165 @@
+-- Laws of the rounds: what a round ends with, or leaves to the next.
+-- Assumes nothing.
+use Prim.Native.Nat.{ℕ, zero, suc, _+_, _-_, _≤_, _<_}
+use mathlib.Core.Path.{_≡_, refl, sym, ap, _∙_}
+use mathlib.Core.Logic.{inl, inr}
+use mathlib.Core.Option.{none}
+use mathlib.Core.List.{List, [], _∷_, _++_, map, flatMap}
+use native.Mathlib.Nat.{add-zero}
+use native.Mathlib.Omega.{arith}
+use borrow.Author.Tests.{lt-ltb, le-ltb, eq-eqb, ne-eqb}
+use lib.ListN.{length}
+use Rattle.model.specs.Lists.{Nth, here, there, countFrom}
+use Rattle.model.proofs.ListLaws.{nth-lt}
+use Rattle.model.specs.Counting.{Alphabet}
+use Rattle.model.specs.Saturation.{Algebra, Candidate, Verdict, leafCandidate, Found, Open, Empty, Unended, firstAccepted, absorb, rowsOf, settle, conclude, after}
+use Rattle.model.proofs.Turns.{absorb-longer}
+use Rattle.model.specs.Fresh.{freshNodes, freshCandidates, freshRound, freshRounds, freshSaturation}
+use Rattle.algorithms.specs.Automaton.{Automaton, numbered, alphabetOf}
+use Rattle.algorithms.specs.Saturate.{algebraOf, saturationOf}
+use Rattle.algorithms.proofs.Theorems.{fresh-same}
+use Rattle.automaton.specs.declared.Header.{Header}
+use Rattle.representatives.specs.Stored.{originOf, originIn, originsIn, Count}
+use Rattle.saturation.specs.Tries.{Read, overRows, Held, Holds, Tries, accepted, onward}
+use Rattle.representatives.specs.declared.Origin.{Origin}
+use Rattle.saturation.specs.declared.Tried.{Tried}
+use Rattle.classes.proofs.Symbols.{map-flat}
+use Rattle.saturation.proofs.Trying.{no-rows}
+
+module _ (A : Automaton) where
+  abbrev M : Algebra
+  M = algebraOf A
+
+  -- the table has how the trees of the rows are built
+  origins-from : (rows : List ℕ) (s : ℕ) (l : List (Candidate M)) → ((i : ℕ) (c : Candidate M) → Nth l i c → originIn rows (s + i) ≡ c .row)
+      → map (originIn rows) (countFrom s (length l)) ≡ rowsOf M l
+  unfolding countFrom
+  origins-from rows s [] h = refl
+  origins-from rows s (c ∷ l) h =
+      let first : originIn rows s ≡ c .row = ap (originIn rows) (sym (add-zero s)) ∙ h 0 c (here refl) in
+      let later = origins-from rows (suc s) l (λ i d n. ap (originIn rows) (omega arith) ∙ h (suc i) d (there n)) in
+      rw (first, later) refl
+
+  origins-are : (rows : List ℕ) (base : List (Candidate M)) (n : ℕ) → length base ≡ n → n ≤ 64 → Held A base rows → originsIn rows n ≡ rowsOf M base
+  origins-are rows base n e few h =
+      rw (← e) (origins-from rows 0 base (λ i c m. ap (originIn rows) (omega arith) ∙ h i c (omega (arith, nth-lt m)) m .origin))
+
+  abbrev triedIn : (h old : ℕ) (base : List (Candidate M)) → List (Candidate M)
+  triedIn h old base = freshCandidates M (alphabetOf A) h old base
+
+  module _ (fuel h old : ℕ) (base : List (Candidate M)) {rows : List ℕ} where
+    pub round-found : (n : ℕ) {o : Origin} → length base ≡ n → n ≤ 64 → Tries A base base (triedIn h old base) rows (Tried.Accepted o)
+        → freshRounds M (alphabetOf A) 64 (suc fuel) h old base ≡ Found h (originsIn rows n ++ originOf o ∷ [])
+    unfolding freshRounds freshRound conclude after
+    round-found n e few (accepted c f r b) = rw (f, r, origins-are rows base n e few b) refl
+
+    -- the rows after a round in which none was accepted
+    counted : {m : ℕ} → Tries A base base (triedIn h old base) rows (Tried.Kept m) → (firstAccepted M (triedIn h old base) ≡ none) × Count m (length (absorb M base (triedIn h old base)))
+    counted (onward e k) = (e, k .stored .count)
+
+    pub round-open : {m : ℕ} → 64 < m → Tries A base base (triedIn h old base) rows (Tried.Kept m) → freshRounds M (alphabetOf A) 64 (suc fuel) h old base ≡ Open h
+    unfolding freshRounds freshRound conclude settle after
+    round-open {m} l t = rw (counted t .0, lt-ltb 64 (length (absorb M base (triedIn h old base))) (many (counted t .1))) refl
+      where
+        many : Count m (length (absorb M base (triedIn h old base))) → 64 < length (absorb M base (triedIn h old base))
+        many (inl e) = absurd (omega (arith, e .0, e .1))
+        many (inr e) = e .1
+
+    few-rows : {m : ℕ} → m ≤ 64 → Tries A base base (triedIn h old base) rows (Tried.Kept m) → m ≡ length (absorb M base (triedIn h old base))
+    few-rows {m} l t = by (counted t .1)
+      where
+        by : Count m (length (absorb M base (triedIn h old base))) → m ≡ length (absorb M base (triedIn h old base))
+        by (inl e) = e .0
+        by (inr e) = absurd (omega (arith, e .0))
+
+    pub round-empty : {m : ℕ} → m ≤ 64 → m ≤ length base → Tries A base base (triedIn h old base) rows (Tried.Kept m)
+        → freshRounds M (alphabetOf A) 64 (suc fuel) h old base ≡ Empty h
+    unfolding freshRounds freshRound conclude settle after
+    round-empty l none-new t =
+        let f = few-rows l t in
+        let e : length (absorb M base (triedIn h old base)) ≡ length base = omega (arith, f, absorb-longer M base (triedIn h old base)) in
+        rw (counted t .0, le-ltb 64 (length (absorb M base (triedIn h old base))) (omega (arith, f)), eq-eqb (length (absorb M base (triedIn h old base))) (length base) e) refl
+
+    pub round-on : {m : ℕ} → m ≤ 64 → length base < m → Tries A base base (triedIn h old base) rows (Tried.Kept m)
+        → freshRounds M (alphabetOf A) 64 (suc fuel) h old base ≡ freshRounds M (alphabetOf A) 64 fuel (suc h) (length base) (absorb M base (triedIn h old base))
+    unfolding freshRounds freshRound conclude settle after
+    round-on l n t =
+        let f = few-rows l t in
+        rw (counted t .0, le-ltb 64 (length (absorb M base (triedIn h old base))) (omega (arith, f)), ne-eqb (length (absorb M base (triedIn h old base))) (length base) (λ e. omega (arith, f))) refl
+
+    pub next-rows : {m : ℕ} → m ≤ 64 → Tries A base base (triedIn h old base) rows (Tried.Kept m)
+        → Holds A (absorb M base (triedIn h old base)) (absorb M base (triedIn h old base)) m rows × (length (absorb M base (triedIn h old base)) ≡ m)
+    next-rows l t = (by t, sym (few-rows l t))
+      where
+        by : {m : ℕ} → Tries A base base (triedIn h old base) rows (Tried.Kept m) → Holds A (absorb M base (triedIn h old base)) (absorb M base (triedIn h old base)) m rows
+        by (onward e k) = record { stored = k .stored; extends = λ i c p. p }
+
+  -- ---- the candidates of a round
+
+  of-list : {base kept cs ds : List (Candidate M)} {rows : List ℕ} {r : Tried} → cs ≡ ds → Tries A base kept ds rows r → Tries A base kept cs rows r
+  of-list e t = rw e t
+
+  module _ (hd : Header) (table : List ℕ) (k : Read A hd table) (old : ℕ) (base : List (Candidate M)) {rows : List ℕ} {r : Tried} where
+    pub leaves-tried : (h : ℕ) → h ≡ 0 → base ≡ []
+        → Tries A [] [] (flatMap (λ σ. leafCandidate M σ ∷ []) (numbered 0 (hd .branches) 0 (hd .symbols))) rows r → Tries A base base (triedIn h old base) rows r
+    unfolding freshCandidates
+    leaves-tried h e f t =
+        rw (e, f)
+        (of-list (map-flat (leafCandidate M) (numbered 0 (A .branches) 0 (A .symbols)) ∙ ap (flatMap (λ σ. leafCandidate M σ ∷ [])) (ap (λ (S : Alphabet). S .leaves) (k .symbols))) t)
+
+    pub branches-tried : (h n : ℕ) → (h ≡ 0 → ⊥) → length base ≡ n
+        → Tries A base base (flatMap (overRows M base old n) (numbered 1 (hd .branches) 0 (hd .symbols))) rows r → Tries A base base (triedIn h old base) rows r
+    unfolding freshCandidates freshNodes
+    branches-tried zero n e f t = absurd (e refl)
+    branches-tried (suc h) n e f t =
+        of-list
+        (ap (λ (m : ℕ). flatMap (overRows M base old m) (numbered 1 (A .branches) 0 (A .symbols))) f ∙ ap (flatMap (overRows M base old n)) (ap (λ (S : Alphabet). S .branches) (k .symbols))) t
+
+  -- ---- from round to round
+
+  -- the table as a round begins, and what the rounds from here on say
+  pub record Begins (rows : List ℕ) (old n height : ℕ) : Type 0 where
+    pub base : List (Candidate M)
+    pub holds : Holds A base base n rows
+    pub count : length base ≡ n
+    pub first : height ≡ 0 → base ≡ []
+    pub rest : saturationOf A ≡ freshRounds M (alphabetOf A) 64 (65 - height) height old base
+
+  pub begins : (rows : List ℕ) → Begins rows 0 0 0
+  unfolding freshSaturation
+  begins rows = record { base = []; holds = no-rows A; count = refl; first = λ e. refl; rest = sym (fresh-same A) }
+
+  module _ (rows : List ℕ) (old n height : ℕ) (b : Begins rows old n height) (soon : height < 65) (few : n ≤ 64) (rows′ : List ℕ) (r : Tried)
+      (t : (base : List (Candidate M)) → Holds A base base n rows → length base ≡ n → (height ≡ 0 → base ≡ []) → Tries A base base (triedIn height old base) rows′ r) where
+    told : {s : Tried} → r ≡ s → Tries A (b .base) (b .base) (triedIn height old (b .base)) rows′ s
+    told e = rw e at (t (b .base) (b .holds) (b .count) (b .first))
+
+    one-round : {v : Verdict} → freshRounds M (alphabetOf A) 64 (suc (64 - height)) height old (b .base) ≡ v → saturationOf A ≡ v
+    one-round e = let fuel : 65 - height ≡ suc (64 - height) = omega arith in rw fuel at (b .rest) ∙ e
+
+    pub ends-found : {o : Origin} → r ≡ Tried.Accepted o → saturationOf A ≡ Found height (originsIn rows′ n ++ originOf o ∷ [])
+    ends-found e = one-round (round-found (64 - height) height old (b .base) n (b .count) few (told e))
+
+    pub ends-open : {m : ℕ} → r ≡ Tried.Kept m → 64 < m → saturationOf A ≡ Open height
+    ends-open e l = one-round (round-open (64 - height) height old (b .base) l (told e))
+
+    pub ends-empty : {m : ℕ} → r ≡ Tried.Kept m → m ≤ 64 → m ≤ n → saturationOf A ≡ Empty height
+    ends-empty e l none-new = one-round (round-empty (64 - height) height old (b .base) l (rw (← b .count) at none-new) (told e))
+
+    pub goes-on : {m : ℕ} → r ≡ Tried.Kept m → m ≤ 64 → n < m → Begins rows′ n m (height + 1)
+    goes-on e l new =
+        let next = next-rows (64 - height) height old (b .base) l (told e) in
+        let on = one-round (round-on (64 - height) height old (b .base) l (rw (← b .count) at new) (told e)) in
+        let fuel : 64 - height ≡ 65 - (height + 1) = omega arith in
+        let later : suc height ≡ height + 1 = omega arith in
+        record {
+          base = absorb M (b .base) (triedIn height old (b .base));
+          holds = next .0;
+          count = next .1;
+          first = λ (z : height + 1 ≡ 0). absurd (omega arith);
+          rest = rw (fuel, later, b .count) at on;
+        }
+
+  pub runs-out : (rows : List ℕ) (old n height : ℕ) → Begins rows old n height → height ≡ 65 → saturationOf A ≡ Unended
+  unfolding freshRounds
+  runs-out rows old n height b e = rw e at (b .rest)

@@ -1,0 +1,26 @@
+-- `saturation::round` meets its contract: the leaf symbols in round 0, the branch symbols later.
+-- Assumes nothing.
+use borrow.Author.Needs.{needs}
+use Rattle.saturation.proofs.Ending.{leaves-tried, branches-tried}
+use Rattle.saturation.proofs.round.Statement.{statement}
+use Rattle.saturation.proofs.round.Tie as tie
+
+pub round-spec : {M : Type 1} → statement M
+round-spec =
+    tie.close
+    (tie.spec
+    (λ c κs. search needs)
+    (λ c κs. search needs)
+    (λ c. search needs)
+    (λ c.
+    let zero = c .before .before .before .before .if1 .taken in (
+      c .before .before .try-leaves .ensures .0,
+      λ A k t base h e f.
+          leaves-tried A _ _ k _ base _ zero (f zero) (c .before .before .try-leaves .ensures .1 A k t),
+    ))
+    (λ c. search needs)
+    (λ c. (
+      c .before .before .try-branches .ensures .0,
+      λ A k t base h e f.
+          branches-tried A _ _ k _ base _ _ (c .before .before .before .before .if1 .left) e (c .before .before .try-branches .ensures .1 A k base h e),
+    )))

@@ -1,0 +1,25 @@
+-- `saturation::try_if_branch` meets its contract: the candidates of the symbol, or none.
+-- Assumes nothing.
+use borrow.Author.Needs.{needs}
+use Rattle.algorithms.specs.Saturate.{algebraOf}
+use Rattle.saturation.specs.Tries.{overRows}
+use Rattle.classes.proofs.Symbols.{in-set, not-in-set}
+use Rattle.saturation.proofs.Trying.{of-one, of-none}
+use Rattle.saturation.proofs.try_if_branch.Statement.{statement}
+use Rattle.saturation.proofs.try_if_branch.Tie as tie
+
+pub try-if-branch-spec : {M : Type 1} → statement M
+try-if-branch-spec =
+    tie.close
+    (tie.spec
+    (λ c κs. search needs)
+    (λ c κs. search needs)
+    (λ c. search needs)
+    (λ c.
+    let test = c .before .before .before .before in (
+      c .before .before .try-lefts .ensures .0,
+      λ A k base before h e.
+          of-one A (overRows (algebraOf A) base _ _) _ (in-set _ _ (test .before .is-branch .ensures) (test .if1 .taken) .0)
+          (c .before .before .try-lefts .ensures .1 A k base before h e),
+    ))
+    (λ c. (search needs, λ A k base before h e. of-none A (overRows (algebraOf A) base _ _) (not-in-set _ _ (c .before .is-branch .ensures) (c .if1 .left) .0) h)))
