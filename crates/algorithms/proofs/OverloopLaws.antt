@@ -25,7 +25,7 @@ use Rattle.model.proofs.Loops.{loop-leaf}
 use Rattle.model.proofs.Congruence.{Same, sides, parts-by, loop-node-by, overloop-node}
 use Rattle.algorithms.specs.Automaton.{Automaton, In, Δ, Accepted, Proper}
 use Rattle.algorithms.proofs.Tests.{T-true}
-use Rattle.algorithms.specs.Overloops.{rowsFrom, moves, leafLoops, nodeLoops, upClosure, leafOverloops, nodeOverloops, overloops, loops}
+use Rattle.algorithms.specs.Overloops.{rowsFrom, moves, nodeSimple, leafLoops, nodeLoops, upClosure, leafOverloops, nodeOverloops, overloops, loops}
 use Rattle.algorithms.specs.Overloops.{accepting, accepts?}
 
 -- ---- rows made of a function
@@ -119,8 +119,9 @@ module _ (A : Automaton) (P : Proper A) where
       abbrev pub Simples : ℕ → ℕ → Type 0
       Simples = Simple (Δ A) τ σ (sides (has L) (has R))
 
+      -- The table that is given, shut.
       simples : List ℕ
-      simples = joined (joined byStay byLeft) byRight
+      simples = nodeSimple A τ σ L R
 
       within-simples : Within n simples
       unfolding simples
@@ -151,6 +152,15 @@ module _ (A : Automaton) (P : Proper A) where
             (has-joined (joined byStay byLeft) byRight p q .0 h),
         λ s. has-joined (joined byStay byLeft) byRight p q .1 (⊎-elim (λ k. inl (has-joined byStay byLeft p q .1 k)) inr (to-simples s)),
       )
+
+      -- The table that is given at a node has the simple loops, and no other pair.
+      pub has-nodeSimple : Same (has (nodeSimple A τ σ L R)) Simples
+      unfolding simples
+      has-nodeSimple = has-simples
+
+      pub within-nodeSimple : Within n (nodeSimple A τ σ L R)
+      unfolding simples
+      within-nodeSimple = within-simples
 
       pub has-nodeLoops : (p q : ℕ) → has (nodeLoops A τ σ L R) p q ↔ (Chain Simples p q × (q < n))
       unfolding nodeLoops simples

@@ -21,17 +21,20 @@ use Rattle.algorithms.specs.Overloops.{moves, leafLoops, nodeLoops, upClosure, 
 use Rattle.algorithms.specs.Saturate.{saturationOf}
 use Rattle.algorithms.specs.Approximate.{union, leafSide, formedSide, formed, settled, leastParts, rootSide, clear?}
 use Rattle.blocks.specs.Blocks.{wordAt, wordSum, blockCheck, checkWrong, contents, content}
+use Rattle.blocks.specs.FileOf.{checkFor, wordBytes, fileByte, listed, fileOf}
 use Rattle.blocks.specs.Search.{lowestFrom}
 use Rattle.refusal.specs.Checks.{checkFrom}
 use Rattle.refusal.specs.Lines.{lengthCheck, blocksCheck, fileCheck, kindCheck, countCheck, sizeCheck, mustBeZero, notZero, fillerCheck}
 use Rattle.refusal.proofs.Passed.{clash}
 use Rattle.automaton.specs.File.{headerOf, countsCheck, setsCheck, rulesCheck, layoutCheck, bodyCheck, parsed}
+use Rattle.automaton.specs.Payload.{payloadOf}
 use Rattle.automaton.specs.Rules.{sortPlace, sortMove, ruleAt, misplaced, ruleCheck}
 use Rattle.automaton.specs.declared.Header.{Header}
 use Rattle.automaton.specs.declared.file.Parsed.{Parsed}
 use Rattle.transitions.specs.Transitions.{nextStates, automatonOf}
 use Rattle.tree.specs.File.{nodesOf, readTree, layoutCheck as treeLayout, bodyCheck as treeBody}
 use Rattle.tree.specs.Nodes.{treeOf, noSymbol, symbolsCheck, partsFrom, shapeCheck, forest, depthOf, heightCheck, nodesCheck}
+use Rattle.tree.specs.Payload.{payloadOf as nodesPayload}
 use Rattle.tree.specs.Preorder.{Writes}
 use Rattle.tree.proofs.Reading.{tree-read}
 use Rattle.tree.specs.declared.file.ParsedTree.{ParsedTree}
@@ -41,11 +44,11 @@ use Rattle.membership.proofs.Proved.{judged-right}
 use Rattle.membership.specs.declared.Answer.{Answer}
 use Rattle.emptiness.specs.Surveyed.{planBytes, told as toldSurvey, written, bufferCheck, outcome, surveyed}
 use Rattle.emptiness.specs.Checked.{clearOr, checked}
-use Rattle.emptiness.specs.Proved.{surveyed-right, checked-right}
+use Rattle.emptiness.proofs.Proved.{surveyed-right, checked-right}
 use Rattle.emptiness.specs.declared.Survey.{Survey}
 use Rattle.emptiness.specs.declared.Quick.{Quick}
 use Rattle.emptiness.proofs.Planning.{bytes-length}
-use Rattle.board.specs.Files.{sealed, walker, rulesA, fileA, fileA+, fileI, fileJ, letter}
+use Rattle.board.specs.Files.{walker, rulesA, fileA, fileA+, fileI, fileJ, letter}
 use Rattle.board.specs.Board.{Row, judges, surveys, seals, rows, planned, JudgesRight, SurveysRight, Right}
 
 -- ---- what is computed of a row's files
@@ -201,7 +204,7 @@ same-at f g (x ∷ l) e a (List·Memᴰ·tail m) = let t : map f l ≡ map g l =
 
 -- the computed test over the table
 all-seen : map seen rows ≡ map said rows
-unfolding rows seen said judgingSeen letterSeen surveySeen planOf fileA fileA+ fileI fileJ letter sealed walker rulesA parsed fileCheck lengthCheck blocksCheck checkWrong blockCheck wordSum lowestFrom content contents headerOf layoutCheck kindCheck countsCheck countCheck sizeCheck bodyCheck fillerCheck notZero mustBeZero setsCheck rulesCheck checkFrom ruleCheck ruleAt sortPlace sortMove misplaced member readTree treeLayout treeBody nodesCheck symbolsCheck noSymbol partsFrom shapeCheck forest treeOf depthOf heightCheck accepts? loops overloops saturation rounds after round conclude settle absorb keepIfNew known firstAccepted firstIf candidates nodeCandidates nodeCandidate classAt leafCandidate countFrom flatMap clear? rootSide leastParts settled formed formedSide leafSide union nodeOverloops leafOverloops upClosure nodeLoops leafLoops moves nextStates
+unfolding rows seen said judgingSeen letterSeen surveySeen planOf fileA fileA+ fileI fileJ letter walker rulesA fileOf listed fileByte checkFor wordBytes payloadOf nodesPayload parsed fileCheck lengthCheck blocksCheck checkWrong blockCheck wordSum lowestFrom content contents headerOf layoutCheck kindCheck countsCheck countCheck sizeCheck bodyCheck fillerCheck notZero mustBeZero setsCheck rulesCheck checkFrom ruleCheck ruleAt sortPlace sortMove misplaced member readTree treeLayout treeBody nodesCheck symbolsCheck noSymbol partsFrom shapeCheck forest treeOf depthOf heightCheck accepts? loops overloops saturation rounds after round conclude settle absorb keepIfNew known firstAccepted firstIf candidates nodeCandidates nodeCandidate classAt leafCandidate countFrom flatMap clear? rootSide leastParts settled formed formedSide leafSide union nodeOverloops leafOverloops upClosure nodeLoops leafLoops moves nextStates
 all-seen = refl
 
 -- (a) to (k)

@@ -2,4 +2,3 @@
 pub mod Surveyed
 pub mod Checked
 pub mod Demand3
-pub mod Proved

@@ -14,7 +14,7 @@ use Rattle.model.specs.declared.Place.{Place}
 use Rattle.model.specs.declared.Move.{Move}
 use Rattle.relation.specs.Rows.{noPairs, joined, composed, closed, meeting}
 use Rattle.algorithms.specs.Automaton.{Automaton, Proper}
-use Rattle.algorithms.specs.Overloops.{accepting, moves, nodeLoops, upClosure, leafOverloops, nodeOverloops}
+use Rattle.algorithms.specs.Overloops.{accepting, moves, nodeSimple, nodeLoops, upClosure, leafOverloops, nodeOverloops}
 use Rattle.algorithms.proofs.OverloopLaws.{row-moves, leaf-as-node, within-leafOverloops}
 use Rattle.blocks.specs.Blocks.{content}
 use Rattle.refusal.specs.declared.Refusal.{Refusal}
@@ -51,12 +51,15 @@ moves-are A t σ τ μ l c =
 -- ---- the operations of a node, one after the other
 
 module _ (A : Automaton) (τ : Place) (σ : ℕ) (L R : List ℕ) where
-  pub loops-formed : (n : ℕ) {stay down-left here down-right all closure : List ℕ} → A .states ≡ n
+  pub simple-formed : {stay down-left here down-right all : List ℕ}
       → stay ≡ moves A σ τ Move.Stay → down-left ≡ moves A σ τ (Move.Down Side.Left) → here ≡ joined stay (composed down-left L)
-      → down-right ≡ moves A σ τ (Move.Down Side.Right) → all ≡ joined here (composed down-right R)
-      → closure ≡ closed n all → closure ≡ nodeLoops A τ σ L R
+      → down-right ≡ moves A σ τ (Move.Down Side.Right) → all ≡ joined here (composed down-right R) → all ≡ nodeSimple A τ σ L R
+  simple-formed s dl h dr a = rw (a, h, s, dl, dr)
+
+  pub loops-formed : (n : ℕ) {all closure : List ℕ} → A .states ≡ n → all ≡ nodeSimple A τ σ L R → closure ≡ closed n all
+      → closure ≡ nodeLoops A τ σ L R
   unfolding nodeLoops
-  loops-formed n e s dl h dr a c = rw (c, a, h, s, dl, dr, e)
+  loops-formed n e a c = rw (c, a, e)
 
   pub overloops-formed : {loops ups exits : List ℕ} → loops ≡ nodeLoops A τ σ L R → ups ≡ moves A σ τ Move.Up → exits ≡ composed loops ups
       → exits ≡ nodeOverloops A τ σ L R

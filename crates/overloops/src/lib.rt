@@ -46,7 +46,27 @@ fn moves_in(table: &[u32], symbol: Symbol, place: Place, step: Move) -> &[u32]
     &table[at..end]
 }
 
-// The loops of a node at a place, from the rows of its parts' overloops.
+// The table that is given at a node at a place, before it is closed, from the rows of its parts' overloops.
+fn simple_in(
+    table: &[u32],
+    symbol: Symbol,
+    place: Place,
+    left: &[u32; 24],
+    right: &[u32; 24],
+) -> Relation
+    requires { ⌜ (length (now table) ≡ 9216) × (symbol .0 < 32) ⌝ }
+    ensures { λ r. ⌜ ((A : Automaton) → Compiled A (now (table .entry))
+        → r .rows ≡ spec.nodeSimple A place (symbol .0) (now (left .entry)) (now (right .entry))) ⌝ }
+{
+    moves(table, symbol, place, Move::Stay)
+        .join_follow(moves_in(table, symbol, place, Move::Down(Side::Left)), left)
+        .join_follow(
+            moves_in(table, symbol, place, Move::Down(Side::Right)),
+            right,
+        )
+}
+
+// The loops of a node at a place: that table, closed.
 fn loops_in(
     table: &[u32],
     states: usize,
@@ -59,13 +79,7 @@ fn loops_in(
     ensures { λ r. ⌜ ((A : Automaton) → Tabled A states (now (table .entry))
         → r .rows ≡ spec.nodeLoops A place (symbol .0) (now (left .entry)) (now (right .entry))) ⌝ }
 {
-    moves(table, symbol, place, Move::Stay)
-        .join_follow(moves_in(table, symbol, place, Move::Down(Side::Left)), left)
-        .join_follow(
-            moves_in(table, symbol, place, Move::Down(Side::Right)),
-            right,
-        )
-        .close(states)
+    simple_in(table, symbol, place, left, right).close(states)
 }
 
 // The overloops of a node as a part of its parent, from the rows of its own parts'.

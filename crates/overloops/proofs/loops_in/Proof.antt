@@ -1,4 +1,4 @@
--- `overloops::loops_in` meets its contract: each call is one operation of the definition, or two.
+-- `overloops::loops_in` meets its contract.
 -- Assumes nothing.
 use borrow.Author.Needs.{needs}
 use Rattle.overloops.proofs.Laws.{loops-formed}
@@ -11,12 +11,4 @@ loops-in-spec =
     (tie.spec
     (λ c κs. search needs)
     (λ c κs. search needs)
-    (λ c κs. search needs)
-    (λ c κs. search needs)
-    (λ c κs. search needs)
-    (λ c κs. search needs)
-    (λ c. λ A k.
-    let m = k .compiled in
-    loops-formed A _ _ _ _ _ (k .states) (c .before .before .before .before .before .before .before .moves .ensures A m)
-    (c .before .before .before .before .before .before .moves-in .ensures .1 A m) (c .before .before .before .before .join-follow .ensures)
-    (c .before .before .before .moves-in2 .ensures .1 A m) (c .before .join-follow2 .ensures) (c .close .ensures)))
+    (λ c. λ A k. loops-formed A _ _ _ _ _ (k .states) (c .before .simple-in .ensures A (k .compiled)) (c .close .ensures)))

@@ -11,7 +11,7 @@ use Rattle.overloops.specs.Prepared.{Prepared}
 use Rattle.overloops.proofs.Laws.{prepared-read}
 use Rattle.emptiness.specs.Checked.{clearOr, checked}
 use Rattle.emptiness.specs.Demand3.{Demand3Quick}
-use Rattle.emptiness.specs.Proved.{checked-right}
+use Rattle.emptiness.proofs.Proved.{checked-right}
 use Rattle.emptiness.specs.declared.Quick.{Quick}
 use Rattle.emptiness.proofs.file.quick.Statement.{statement}
 use Rattle.emptiness.proofs.file.quick.Tie as tie

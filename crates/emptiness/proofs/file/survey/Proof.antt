@@ -16,7 +16,7 @@ use Rattle.overloops.proofs.Laws.{prepared-read}
 use Rattle.saturation.specs.Tries.{Read}
 use Rattle.emptiness.specs.Surveyed.{Outcome, outcome, bufferCheck, surveyed}
 use Rattle.emptiness.specs.Demand3.{Demand3}
-use Rattle.emptiness.specs.Proved.{surveyed-right}
+use Rattle.emptiness.proofs.Proved.{surveyed-right}
 use Rattle.emptiness.specs.declared.Survey.{Survey}
 use Rattle.emptiness.proofs.Planning.{long-enough}
 use Rattle.emptiness.proofs.file.survey.Statement.{statement}

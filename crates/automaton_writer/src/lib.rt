@@ -1,0 +1,1 @@
+// Writes the file of an automaton from its header and rule records.
