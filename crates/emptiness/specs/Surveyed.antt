@@ -6,12 +6,10 @@ use lib.Dec.{ltb}
 use Rattle.model.specs.Saturation.{WitnessRow, Verdict, Found, Open, Empty, Unended}
 use Rattle.algorithms.specs.Automaton.{Automaton}
 use Rattle.algorithms.specs.Saturate.{saturationOf}
-use Rattle.blocks.specs.Blocks.{content}
 use Rattle.refusal.specs.Checks.{refuseIf}
 use Rattle.refusal.specs.declared.Check.{Check}
 use Rattle.refusal.specs.declared.Fault.{Fault}
-use Rattle.automaton.specs.File.{parsed}
-use Rattle.automaton.specs.declared.file.Parsed.{Parsed}
+use Rattle.automaton.specs.File.{readAutomaton}
 use Rattle.transitions.specs.Transitions.{automatonOf}
 use Rattle.emptiness.specs.declared.Survey.{Survey}
 
@@ -50,10 +48,6 @@ abbrev pub afterCheck : Check → Automaton → (buffer : List ℕ) → Outcome
 afterCheck (Check.Refused r) A buffer = outcome (Survey.Refused r) buffer
 afterCheck Check.Passed A buffer = outcome (told (saturationOf A)) (written (saturationOf A) buffer)
 
-abbrev pub surveyRead : Parsed → (w buffer : List ℕ) → Outcome
-surveyRead (Parsed.Refused r) w buffer = outcome (Survey.Refused r) buffer
-surveyRead (Parsed.Read h) w buffer = afterCheck (bufferCheck buffer) (automatonOf h (content w)) buffer
-
 -- the survey of an automaton's file w, with a lent buffer
 unfoldable pub surveyed : (w buffer : List ℕ) → Outcome
-surveyed w buffer = surveyRead (parsed w) w buffer
+surveyed w buffer = readAutomaton w (λ r. outcome (Survey.Refused r) buffer) (λ h p. afterCheck (bufferCheck buffer) (automatonOf h p) buffer)

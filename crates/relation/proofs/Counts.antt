@@ -5,7 +5,8 @@ use native.Mathlib.Decide.{decLt}
 use native.Mathlib.Omega.{arith}
 use mathlib.Core.Path.{_≡_, sym, _∙_}
 use mathlib.Core.List.{List, [], _∷_}
-use Rattle.relation.specs.Bit.{bit, bit-low, bit-half}
+use Rattle.relation.specs.Bit.{bit}
+use Rattle.relation.proofs.BitLaws.{bit-low, bit-half}
 use Rattle.relation.specs.Rows.{has, bitsOf, countOf}
 
 add-both : {a b c d : ℕ} → a ≤ b → c ≤ d → a + c ≤ b + d

@@ -18,7 +18,7 @@ use Rattle.model.specs.declared.Signature.{Signature}
 use Rattle.refusal.specs.Lines.{kindCheck, countCheck}
 use Rattle.refusal.specs.declared.Check.the-variants.{Passed}
 use Rattle.refusal.proofs.Written.{Payload, written-passes}
-use Rattle.tree.specs.File.{treeFormat, countOf, nodesOf, layoutCheck, bodyCheck, parsed, readTree}
+use Rattle.tree.specs.File.{treeFormat, countOf, nodesOf, layoutCheck, bodyCheck, nodesIf, readTree}
 use Rattle.tree.proofs.Laws.{nodes-pass}
 use Rattle.tree.specs.Nodes.{nodesCheck}
 use Rattle.tree.specs.Payload.{payloadOf, treeFile}
@@ -84,7 +84,7 @@ module _ (nodes : List ℕ) (least : 1 ≤ length nodes) (most : length nodes �
       rw (count-is, nodes-are, ← payload-length nodes, written-passes treeFormat (payloadOf nodes) payload .filler)
 
   -- the nodes, if lines 10 to 12 pass them
-  pub nodes-read : (sg : Signature) → readTree sg (fileOf (payloadOf nodes)) ≡ parsed (nodesCheck sg nodes) (length nodes)
+  pub nodes-read : (sg : Signature) → readTree sg (fileOf (payloadOf nodes)) ≡ nodesIf (nodesCheck sg nodes) (length nodes)
   unfolding readTree joined
   nodes-read sg = rw (written-passes treeFormat (payloadOf nodes) payload .file, layout-passes, body-is sg, count-is)
 
