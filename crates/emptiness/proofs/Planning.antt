@@ -76,13 +76,11 @@ abbrev pub toldAs : Verdict → Survey
 toldAs (Verdict.Found h n o) = Survey.Found h (n + 1)
 toldAs (Verdict.Open h) = Survey.Open h
 toldAs (Verdict.Empty h) = Survey.Empty h
-toldAs Verdict.Unended = Survey.Open 255
 
 abbrev pub leftAs : Verdict → (rows plan : List ℕ) → List ℕ
 leftAs (Verdict.Found h n o) rows plan = planBytes (originsIn rows n ++ originOf o ∷ []) ++ drop (3 * (n + 1)) plan
 leftAs (Verdict.Open h) rows plan = plan
 leftAs (Verdict.Empty h) rows plan = plan
-leftAs Verdict.Unended rows plan = plan
 
 as-told : (r : Verdict) (rows plan : List ℕ) → (toldAs r ≡ told (verdictOf r rows)) × (leftAs r rows plan ≡ written (verdictOf r rows) plan)
 as-told (Verdict.Found h n o) rows plan =
@@ -90,7 +88,6 @@ as-told (Verdict.Found h n o) rows plan =
     (rw count refl, rw count refl)
 as-told (Verdict.Open h) rows plan = (refl, refl)
 as-told (Verdict.Empty h) rows plan = (refl, refl)
-as-told Verdict.Unended rows plan = (refl, refl)
 
 pub answered : (v : saturation.Verdict) (r r′ : Verdict) (rows plan plan′ : List ℕ) → v ≡ verdictOf r rows → r ≡ r′ → plan′ ≡ leftAs r′ rows plan
     → (toldAs r′ ≡ told v) × (plan′ ≡ written v plan)

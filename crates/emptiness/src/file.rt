@@ -16,7 +16,7 @@ ghost use lib.ListN.{length};
 ghost use Rattle.algorithms.specs.Automaton.{Automaton};
 ghost use Rattle.algorithms.specs.Saturate.{saturationOf};
 ghost use Rattle.overloops.specs.Tables.{Leaves};
-ghost use Rattle.saturation.specs.Tries.{Read};
+ghost use Rattle.candidates.specs.Tries.{Read};
 ghost use Rattle.emptiness.specs.Surveyed.{bufferCheck, outcome, told, written, surveyed};
 ghost use Rattle.emptiness.specs.Checked.{checked};
 ghost use Rattle.emptiness.specs.Demand3.{Demand3, Demand3Quick};
@@ -37,14 +37,18 @@ fn survey_read(table: &[u32], leaves: &[u32], header: Header, plan: &mut [u8]) -
     ensures { λ r. ⌜ ((A : Automaton) → Read A header (now (table .entry)) → Leaves A (now (leaves .entry))
         → (r ≡ told (saturationOf A)) × (now (plan .exit) ≡ written (saturationOf A) (now (plan .entry)))) ⌝ }
 {
-    let mut rows = [0u32; 3264];
-    match saturate(table, leaves, header, &mut rows) {
+    let mut kept = [0u32; 3264];
+    match saturate(table, leaves, header, &mut kept) {
         Verdict::Open(height) => Survey::Open(height),
         Verdict::Empty(height) => Survey::Empty(height),
-        Verdict::Unended => Survey::Open(255),
-        Verdict::Found(height, n, origin) => {
-            write_plan(&rows, n, origin, plan);
-            Survey::Found(height, n + 1)
+        Verdict::Found {
+            height,
+            rows: n,
+            origin,
+        } => {
+            write_plan(&kept, n, origin, plan);
+            let rows = n + 1;
+            Survey::Found { height, rows }
         }
     }
 }

@@ -7,7 +7,7 @@ use refusal::Refusal;
 
 // What the survey answers: a height, with the number of rows of the plan where a tree was found; or a refusal.
 pub enum Survey {
-    Found(usize, usize),
+    Found { height: usize, rows: usize },
     Open(usize),
     Empty(usize),
     Refused(Refusal),

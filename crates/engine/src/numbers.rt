@@ -52,7 +52,7 @@ fn put_survey(answer: Survey, told: &mut [usize; 3]) -> u32
     ensures { λ r. ⌜ (r ≡ surveyNumber answer) × (now (told .exit) ≡ surveyTold answer) ⌝ }
 {
     match answer {
-        Survey::Found(height, rows) => {
+        Survey::Found { height, rows } => {
             *told = [height, rows, 0];
             0
         }

@@ -60,7 +60,7 @@ pub fn survey(
     salt: usize,
 ) -> bool {
     match answer {
-        Survey::Found(h, n) => {
+        Survey::Found { height: h, rows: n } => {
             found(list, classes, h, n)
                 && plan::builds(a, rules, buffer, h, n)
                 && plan::unchanged(buffer, n % 256 * 3, salt)
@@ -76,7 +76,7 @@ pub fn quick(list: List, answer: Quick, beside: Survey) -> bool {
     match answer {
         Quick::Clear => {
             match beside {
-                Survey::Found(_, _) => false,
+                Survey::Found { height: _, rows: _ } => false,
                 _ => list.first == lists::NONE,
             }
         }

@@ -142,7 +142,7 @@ fn one(k: usize, family: usize) -> Outcome {
 // Writes the survey's answer.
 fn print_survey(answer: Survey) {
     match answer {
-        Survey::Found(h, n) => {
+        Survey::Found { height: h, rows: n } => {
             labelled(b"found height=", h);
             labelled(b" rows=", n);
         }
@@ -160,7 +160,7 @@ fn print_survey(answer: Survey) {
 fn count_survey(counts: &mut [usize], from: usize, answer: Survey) {
     let at = from % 64;
     match answer {
-        Survey::Found(h, _) => {
+        Survey::Found { height: h, rows: _ } => {
             count(counts, at);
             if h < 7 {
                 count(counts, 56 + h);

@@ -12,7 +12,7 @@ use lib.ListN.{length}
 use Rattle.model.specs.Lists.{Nth, here, there, countFrom}
 use Rattle.model.proofs.ListLaws.{nth-lt}
 use Rattle.model.specs.Counting.{Alphabet}
-use Rattle.model.specs.Saturation.{Algebra, Candidate, Verdict, leafCandidate, Found, Open, Empty, Unended, firstAccepted, absorb, rowsOf, settle, conclude, after}
+use Rattle.model.specs.Saturation.{Algebra, Candidate, Verdict, leafCandidate, Found, Open, Empty, firstAccepted, absorb, rowsOf, settle, conclude, after}
 use Rattle.model.proofs.Turns.{absorb-longer}
 use Rattle.model.specs.Fresh.{freshNodes, freshCandidates, freshRound, freshRounds, freshSaturation}
 use Rattle.algorithms.specs.Automaton.{Automaton, numbered, alphabetOf}
@@ -20,11 +20,11 @@ use Rattle.algorithms.specs.Saturate.{algebraOf, saturationOf}
 use Rattle.algorithms.proofs.Theorems.{fresh-same}
 use Rattle.automaton.specs.declared.Header.{Header}
 use Rattle.representatives.specs.Stored.{originOf, originIn, originsIn, Count}
-use Rattle.saturation.specs.Tries.{Read, overRows, Held, Holds, Tries, accepted, onward}
+use Rattle.candidates.specs.Tries.{Read, overRows, Held, Holds, Tries, accepted, onward}
 use Rattle.representatives.specs.declared.Origin.{Origin}
-use Rattle.saturation.specs.declared.Tried.{Tried}
+use Rattle.candidates.specs.declared.Tried.{Tried}
 use Rattle.classes.proofs.Symbols.{map-flat}
-use Rattle.saturation.proofs.Trying.{no-rows}
+use Rattle.candidates.proofs.Trying.{no-rows}
 
 module _ (A : Automaton) where
   abbrev M : Algebra
@@ -94,27 +94,6 @@ module _ (A : Automaton) where
         by : {m : ℕ} → Tries A base base (triedIn h old base) rows (Tried.Kept m) → Holds A (absorb M base (triedIn h old base)) (absorb M base (triedIn h old base)) m rows
         by (onward e k) = record { stored = k .stored; extends = λ i c p. p }
 
-  -- ---- the candidates of a round
-
-  of-list : {base kept cs ds : List (Candidate M)} {rows : List ℕ} {r : Tried} → cs ≡ ds → Tries A base kept ds rows r → Tries A base kept cs rows r
-  of-list e t = rw e t
-
-  module _ (hd : Header) (table : List ℕ) (k : Read A hd table) (old : ℕ) (base : List (Candidate M)) {rows : List ℕ} {r : Tried} where
-    pub leaves-tried : (h : ℕ) → h ≡ 0 → base ≡ []
-        → Tries A [] [] (flatMap (λ σ. leafCandidate M σ ∷ []) (numbered 0 (hd .branches) 0 (hd .symbols))) rows r → Tries A base base (triedIn h old base) rows r
-    unfolding freshCandidates
-    leaves-tried h e f t =
-        rw (e, f)
-        (of-list (map-flat (leafCandidate M) (numbered 0 (A .branches) 0 (A .symbols)) ∙ ap (flatMap (λ σ. leafCandidate M σ ∷ [])) (ap (λ (S : Alphabet). S .leaves) (k .symbols))) t)
-
-    pub branches-tried : (h n : ℕ) → (h ≡ 0 → ⊥) → length base ≡ n
-        → Tries A base base (flatMap (overRows M base old n) (numbered 1 (hd .branches) 0 (hd .symbols))) rows r → Tries A base base (triedIn h old base) rows r
-    unfolding freshCandidates freshNodes
-    branches-tried zero n e f t = absurd (e refl)
-    branches-tried (suc h) n e f t =
-        of-list
-        (ap (λ (m : ℕ). flatMap (overRows M base old m) (numbered 1 (A .branches) 0 (A .symbols))) f ∙ ap (flatMap (overRows M base old n)) (ap (λ (S : Alphabet). S .branches) (k .symbols))) t
-
   -- ---- from round to round
 
   -- the table as a round begins, and what the rounds from here on say
@@ -159,7 +138,3 @@ module _ (A : Automaton) where
           first = λ (z : height + 1 ≡ 0). absurd (omega arith);
           rest = rw (fuel, later, b .count) at on;
         }
-
-  pub runs-out : (rows : List ℕ) (old n height : ℕ) → Begins rows old n height → height ≡ 65 → saturationOf A ≡ Unended
-  unfolding freshRounds
-  runs-out rows old n height b e = rw e at (b .rest)

@@ -10,11 +10,9 @@ abbrev pub verdictOf : Verdict → (rows : List ℕ) → saturation.Verdict
 verdictOf (Verdict.Found h n o) rows = saturation.Found h (originsIn rows n ++ originOf o ∷ [])
 verdictOf (Verdict.Open h) rows = saturation.Open h
 verdictOf (Verdict.Empty h) rows = saturation.Empty h
-verdictOf Verdict.Unended rows = saturation.Unended
 
 -- a tree is found after at most 64 rows
 abbrev pub FoundFew : Verdict → Type 0
 FoundFew (Verdict.Found h n o) = n ≤ 64
 FoundFew (Verdict.Open h) = Unit {0}
 FoundFew (Verdict.Empty h) = Unit {0}
-FoundFew Verdict.Unended = Unit {0}

@@ -1,2 +1,1 @@
-pub mod Tries
 pub mod Ends

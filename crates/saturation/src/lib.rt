@@ -1,273 +1,29 @@
-// The rounds of the saturation, document 01's survey. A round tries its candidates in order: each is tested for acceptance, and kept as a
-// row if its class is new. Only candidates over some row of the last round are tried, since all others were tried before.
-use algorithms::is_branch;
+// The saturation, document 01's survey: rounds of candidates until a tree is accepted, the rows are more than 64, or a round adds none.
 use automaton::Header;
-use classes::leaf_accepted;
-use classes::leaf_class;
-use classes::node_accepted;
-use classes::node_class;
-use model::Symbol;
+use candidates::Tried;
+use candidates::round;
 use representatives::Origin;
-use representatives::Row;
-use representatives::class_at;
-use representatives::keep;
 ghost use mathlib.Core.Path.{_≡_};
-ghost use mathlib.Core.List.{List, [], _∷_, map, flatMap};
-ghost use Prim.Native.Nat.{ℕ, _-_, _<_, _≤_};
+ghost use Prim.Native.Nat.{_≤_};
 ghost use lib.ListN.{length};
-ghost use lib.Dec.{eqb, ltb};
-ghost use Rattle.relation.specs.Bit.{bit};
-ghost use Rattle.model.specs.Lists.{countFrom};
-ghost use Rattle.model.specs.Saturation.{Candidate, leafCandidate, nodeCandidate};
-ghost use Rattle.model.specs.Fresh.{rights, freshCandidates};
-ghost use Rattle.algorithms.specs.Automaton.{Automaton, consIf, numbered, alphabetOf};
-ghost use Rattle.algorithms.specs.Saturate.{algebraOf, saturationOf};
+ghost use Rattle.algorithms.specs.Automaton.{Automaton};
+ghost use Rattle.algorithms.specs.Saturate.{saturationOf};
 ghost use Rattle.overloops.specs.Tables.{Leaves};
-ghost use Rattle.saturation.specs.Tries.{Read, overRows, Holds, Tries, Few};
+ghost use Rattle.candidates.specs.Tries.{Read};
 ghost use Rattle.saturation.specs.Ends.{verdictOf, FoundFew};
 
-// What trying candidates gives: the first that is accepted, or the count of the rows kept (65 for more than 64).
-pub enum Tried {
-    Accepted(Origin),
-    Kept(usize),
-}
-
-// How the rounds end: Found at a height after so many rows, with the accepted tree; Open or Empty at a height. (Unended, the rounds having
-// run out, never comes: specs/Proved.antt.)
+// How the rounds end: Found at a height after so many rows, with the accepted tree; Open or Empty at a height.
 pub enum Verdict {
-    Found(usize, usize, Origin),
+    Found {
+        height: usize,
+        rows: usize,
+        origin: Origin,
+    },
     Open(usize),
     Empty(usize),
-    Unended,
 }
 
-// Tries a leaf.
-fn try_leaf(
-    table: &[u32],
-    leaves: &[u32],
-    header: Header,
-    symbol: Symbol,
-    rows: &mut [u32],
-    n: usize,
-) -> Tried
-    requires { ⌜ (length (now table) ≡ 9216) × (length (now leaves) ≡ 1536) × (header .states ≤ 24) × (symbol .0 < 32)
-        × (length (now rows) ≡ 3264) × (n ≤ 65) ⌝ }
-    ensures { λ r. ⌜ Few r × ((A : Automaton) → Read A header (now (table .entry)) → Leaves A (now (leaves .entry))
-        → (base kept : List (Candidate (algebraOf A))) → Holds A base kept n (now (rows .entry))
-        → Tries A base kept (leafCandidate (algebraOf A) (symbol .0) ∷ []) (now (rows .exit)) r) ⌝ }
-{
-    let origin = Origin {
-        symbol,
-        left: Row(255),
-        right: Row(255),
-    };
-    if leaf_accepted(table, header, symbol) {
-        return Tried::Accepted(origin);
-    }
-    Tried::Kept(keep(rows, n, origin, leaf_class(leaves, symbol)))
-}
-
-// Tries a branch symbol over two rows.
-fn try_node(
-    table: &[u32],
-    header: Header,
-    symbol: Symbol,
-    left: Row,
-    right: Row,
-    rows: &mut [u32],
-    n: usize,
-) -> Tried
-    requires { ⌜ (length (now table) ≡ 9216) × (header .states ≤ 24) × (symbol .0 < 32) × (left .0 < 64) × (right .0 < 64)
-        × (length (now rows) ≡ 3264) × (n ≤ 65) ⌝ }
-    ensures { λ r. ⌜ Few r × ((A : Automaton) → Read A header (now (table .entry))
-        → (base kept : List (Candidate (algebraOf A))) → Holds A base kept n (now (rows .entry)) → left .0 < length base → right .0 < length base
-        → Tries A base kept (nodeCandidate (algebraOf A) base (symbol .0) (left .0) (right .0) ∷ []) (now (rows .exit)) r) ⌝ }
-{
-    let l = class_at(rows, left);
-    let r = class_at(rows, right);
-    let origin = Origin {
-        symbol,
-        left,
-        right,
-    };
-    if node_accepted(table, header, symbol, l, r) {
-        return Tried::Accepted(origin);
-    }
-    if n == 65 {
-        return Tried::Kept(65);
-    }
-    Tried::Kept(keep(
-        rows,
-        n,
-        origin,
-        node_class(table, header.states as usize, symbol, l, r),
-    ))
-}
-
-// Tries a branch symbol over a left row and the right rows from..to.
-fn try_rights(
-    table: &[u32],
-    header: Header,
-    symbol: Symbol,
-    left: Row,
-    from: usize,
-    to: usize,
-    rows: &mut [u32],
-    kept: usize,
-) -> Tried
-    requires { ⌜ (length (now table) ≡ 9216) × (header .states ≤ 24) × (symbol .0 < 32) × (left .0 < to) × (from ≤ to) × (to ≤ 64)
-        × (length (now rows) ≡ 3264) × (kept ≤ 65) ⌝ }
-    ensures { λ r. ⌜ Few r × ((A : Automaton) → Read A header (now (table .entry))
-        → (base before : List (Candidate (algebraOf A))) → Holds A base before kept (now (rows .entry)) → length base ≡ to
-        → Tries A base before (map (λ b. nodeCandidate (algebraOf A) base (symbol .0) (left .0) b) (countFrom from (to - from))) (now (rows .exit)) r) ⌝ }
-{
-    let mut n = kept;
-    for right in from..to {
-        match try_node(table, header, symbol, left, Row(right as u8), rows, n) {
-            Tried::Accepted(origin) => return Tried::Accepted(origin),
-            Tried::Kept(m) => n = m,
-        }
-    }
-    Tried::Kept(n)
-}
-
-// Where the range of right rows to try beside a left row begins: beside an old row only the new ones are tried.
-fn first_right(left: Row, old: usize) -> usize
-    ensures { λ r. ⌜ (r ≤ old) × ((n : ℕ) → rights (ltb (left .0) old) old n ≡ countFrom r (n - r)) ⌝ }
-{
-    if (left.0 as usize) < old { old } else { 0 }
-}
-
-// Tries a branch symbol over the rows below `to`, of which those below `old` are old.
-fn try_lefts(
-    table: &[u32],
-    header: Header,
-    symbol: Symbol,
-    old: usize,
-    to: usize,
-    rows: &mut [u32],
-    kept: usize,
-) -> Tried
-    requires { ⌜ (length (now table) ≡ 9216) × (header .states ≤ 24) × (symbol .0 < 32) × (old ≤ to) × (to ≤ 64)
-        × (length (now rows) ≡ 3264) × (kept ≤ 65) ⌝ }
-    ensures { λ r. ⌜ Few r × ((A : Automaton) → Read A header (now (table .entry))
-        → (base before : List (Candidate (algebraOf A))) → Holds A base before kept (now (rows .entry)) → length base ≡ to
-        → Tries A base before (overRows (algebraOf A) base old to (symbol .0)) (now (rows .exit)) r) ⌝ }
-{
-    let mut n = kept;
-    for left in 0..to {
-        let row = Row(left as u8);
-        let from = first_right(row, old);
-        match try_rights(table, header, symbol, row, from, to, rows, n) {
-            Tried::Accepted(origin) => return Tried::Accepted(origin),
-            Tried::Kept(m) => n = m,
-        }
-    }
-    Tried::Kept(n)
-}
-
-// The same, if the symbol is a branch symbol.
-fn try_if_branch(
-    table: &[u32],
-    header: Header,
-    symbol: Symbol,
-    old: usize,
-    to: usize,
-    rows: &mut [u32],
-    kept: usize,
-) -> Tried
-    requires { ⌜ (length (now table) ≡ 9216) × (header .states ≤ 24) × (symbol .0 < 32) × (old ≤ to) × (to ≤ 64)
-        × (length (now rows) ≡ 3264) × (kept ≤ 65) ⌝ }
-    ensures { λ r. ⌜ Few r × ((A : Automaton) → Read A header (now (table .entry))
-        → (base before : List (Candidate (algebraOf A))) → Holds A base before kept (now (rows .entry)) → length base ≡ to
-        → Tries A base before (flatMap (overRows (algebraOf A) base old to) (consIf (eqb (bit (header .branches) (symbol .0)) 1) (symbol .0) [])) (now (rows .exit)) r) ⌝ }
-{
-    if is_branch(header.branches, symbol) {
-        try_lefts(table, header, symbol, old, to, rows, kept)
-    } else {
-        Tried::Kept(kept)
-    }
-}
-
-// Tries the branch symbols in order.
-fn try_branches(table: &[u32], header: Header, old: usize, to: usize, rows: &mut [u32]) -> Tried
-    requires { ⌜ (length (now table) ≡ 9216) × (header .states ≤ 24) × (header .symbols ≤ 32) × (old ≤ to) × (to ≤ 64) × (length (now rows) ≡ 3264) ⌝ }
-    ensures { λ r. ⌜ Few r × ((A : Automaton) → Read A header (now (table .entry))
-        → (base : List (Candidate (algebraOf A))) → Holds A base base to (now (rows .entry)) → length base ≡ to
-        → Tries A base base (flatMap (overRows (algebraOf A) base old to) (numbered 1 (header .branches) 0 (header .symbols))) (now (rows .exit)) r) ⌝ }
-{
-    let mut n = to;
-    for symbol in 0..header.symbols {
-        match try_if_branch(table, header, Symbol(symbol), old, to, rows, n) {
-            Tried::Accepted(origin) => return Tried::Accepted(origin),
-            Tried::Kept(m) => n = m,
-        }
-    }
-    Tried::Kept(n)
-}
-
-// Tries a leaf, if the symbol is a leaf symbol.
-fn try_if_leaf(
-    table: &[u32],
-    leaves: &[u32],
-    header: Header,
-    symbol: Symbol,
-    rows: &mut [u32],
-    kept: usize,
-) -> Tried
-    requires { ⌜ (length (now table) ≡ 9216) × (length (now leaves) ≡ 1536) × (header .states ≤ 24) × (symbol .0 < 32)
-        × (length (now rows) ≡ 3264) × (kept ≤ 65) ⌝ }
-    ensures { λ r. ⌜ Few r × ((A : Automaton) → Read A header (now (table .entry)) → Leaves A (now (leaves .entry))
-        → (base before : List (Candidate (algebraOf A))) → Holds A base before kept (now (rows .entry))
-        → Tries A base before (flatMap (λ σ. leafCandidate (algebraOf A) σ ∷ []) (consIf (eqb (bit (header .branches) (symbol .0)) 0) (symbol .0) [])) (now (rows .exit)) r) ⌝ }
-{
-    if is_branch(header.branches, symbol) {
-        Tried::Kept(kept)
-    } else {
-        try_leaf(table, leaves, header, symbol, rows, kept)
-    }
-}
-
-// Tries the leaf symbols in order, with no row before.
-fn try_leaves(table: &[u32], leaves: &[u32], header: Header, rows: &mut [u32]) -> Tried
-    requires { ⌜ (length (now table) ≡ 9216) × (length (now leaves) ≡ 1536) × (header .states ≤ 24) × (header .symbols ≤ 32) × (length (now rows) ≡ 3264) ⌝ }
-    ensures { λ r. ⌜ Few r × ((A : Automaton) → Read A header (now (table .entry)) → Leaves A (now (leaves .entry))
-        → Tries A [] [] (flatMap (λ σ. leafCandidate (algebraOf A) σ ∷ []) (numbered 0 (header .branches) 0 (header .symbols))) (now (rows .exit)) r) ⌝ }
-{
-    let mut n: usize = 0;
-    for symbol in 0..header.symbols {
-        match try_if_leaf(table, leaves, header, Symbol(symbol), rows, n) {
-            Tried::Accepted(origin) => return Tried::Accepted(origin),
-            Tried::Kept(m) => n = m,
-        }
-    }
-    Tried::Kept(n)
-}
-
-// A round: the leaf symbols, or the branch symbols over the n rows, of which the first `old` are old.
-fn round(
-    table: &[u32],
-    leaves: &[u32],
-    header: Header,
-    height: usize,
-    old: usize,
-    n: usize,
-    rows: &mut [u32],
-) -> Tried
-    requires { ⌜ (length (now table) ≡ 9216) × (length (now leaves) ≡ 1536) × (header .states ≤ 24) × (header .symbols ≤ 32) × (old ≤ n) × (n ≤ 64)
-        × (length (now rows) ≡ 3264) ⌝ }
-    ensures { λ r. ⌜ Few r × ((A : Automaton) → Read A header (now (table .entry)) → Leaves A (now (leaves .entry))
-        → (base : List (Candidate (algebraOf A))) → Holds A base base n (now (rows .entry)) → length base ≡ n → (height ≡ 0 → base ≡ [])
-        → Tries A base base (freshCandidates (algebraOf A) (alphabetOf A) height old base) (now (rows .exit)) r) ⌝ }
-{
-    if height == 0 {
-        try_leaves(table, leaves, header, rows)
-    } else {
-        try_branches(table, header, old, n, rows)
-    }
-}
-
-// The rounds, from no row on. Each but the last adds a row, so that 65 are enough.
+// The rounds, from no row on. Each but the last adds a row, so that they end.
 pub fn saturate(table: &[u32], leaves: &[u32], header: Header, rows: &mut [u32]) -> Verdict
     requires { ⌜ (length (now table) ≡ 9216) × (length (now leaves) ≡ 1536) × (header .states ≤ 24) × (header .symbols ≤ 32)
         × (length (now rows) ≡ 3264) ⌝ }
@@ -276,9 +32,14 @@ pub fn saturate(table: &[u32], leaves: &[u32], header: Header, rows: &mut [u32])
 {
     let mut old: usize = 0;
     let mut n: usize = 0;
-    for height in 0..65 {
+    let mut height: usize = 0;
+    loop {
         match round(table, leaves, header, height, old, n, rows) {
-            Tried::Accepted(origin) => return Verdict::Found(height, n, origin),
+            Tried::Accepted(origin) => return Verdict::Found {
+                height,
+                rows: n,
+                origin,
+            },
             Tried::Kept(m) => {
                 if 64 < m {
                     return Verdict::Open(height);
@@ -288,8 +49,8 @@ pub fn saturate(table: &[u32], leaves: &[u32], header: Header, rows: &mut [u32])
                 }
                 old = n;
                 n = m;
+                height += 1;
             }
         }
     }
-    Verdict::Unended
 }

@@ -206,7 +206,7 @@ fn right(
     let below = least(heights, values);
     let full = full_height(heights);
     match answer {
-        Survey::Found(h, n) => {
+        Survey::Found { height: h, rows: n } => {
             h == below % 256 + 1
                 && h <= full
                 && n == made(heights, below) % 4096 + 1

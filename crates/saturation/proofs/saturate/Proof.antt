@@ -10,22 +10,22 @@ use Rattle.model.specs.Fresh.{freshCandidates}
 use Rattle.algorithms.specs.Automaton.{Automaton, alphabetOf}
 use Rattle.algorithms.specs.Saturate.{algebraOf}
 use Rattle.overloops.specs.Tables.{Leaves}
-use Rattle.saturation.specs.Tries.{Read, Holds, Tries}
-use Rattle.saturation.proofs.Ending.{Begins, begins, ends-found, ends-open, ends-empty, goes-on, runs-out}
+use Rattle.candidates.specs.Tries.{Read, Holds, Tries}
+use Rattle.saturation.proofs.Ending.{Begins, begins, ends-found, ends-open, ends-empty, goes-on}
 use Rattle.saturation.proofs.saturate.Statement.{statement}
 use Rattle.saturation.proofs.saturate.Tie as tie
 
 abbrev Inv-loop : tie.InvT-loop
 Inv-loop table leaves header rows₀ old₀ n₀ height₀ rows old n height =
-    (length rows ≡ 3264) × (old ≤ n) × (n ≤ 64) × (height ≤ 65) × ((A : Automaton) → Read A header table → Leaves A leaves → Begins A rows old n height)
+    (length rows ≡ 3264) × (old ≤ n) × (n ≤ 64) × (height ≤ n) × ((A : Automaton) → Read A header table → Leaves A leaves → Begins A rows old n height)
 
 abbrev μ-loop : tie.MeasureT-loop
-μ-loop table leaves header rows₀ old₀ n₀ height₀ rows old n height = 65 - height
+μ-loop table leaves header rows₀ old₀ n₀ height₀ rows old n height = 65 - n
 
 -- what the round tried, whatever the rows are
-tried : (c : tie.After-round Inv-loop μ-loop) (A : Automaton) → Read A (c .before .before .before .before .before .before .before .args .header) (c .before .before .before .before .before .before .before .args .table .now) → Leaves A (c .before .before .before .before .before .before .before .args .leaves .now)
-    → (base : List (Candidate (algebraOf A))) → Holds A base base (c .before .before .before .loop .n) (c .before .before .before .loop .rows) → length base ≡ c .before .before .before .loop .n → (c .before .before .before .loop .height ≡ 0 → base ≡ [])
-    → Tries A base base (freshCandidates (algebraOf A) (alphabetOf A) (c .before .before .before .loop .height) (c .before .before .before .loop .old) base) (c .round .last .1 .1 .1 .1 .1 .1 .0) (c .round .result)
+tried : (c : tie.After-round Inv-loop μ-loop) (A : Automaton) → Read A (c .before .before .before .before .before .before .args .header) (c .before .before .before .before .before .before .args .table .now) → Leaves A (c .before .before .before .before .before .before .args .leaves .now)
+    → (base : List (Candidate (algebraOf A))) → Holds A base base (c .before .before .loop .n) (c .before .before .loop .rows) → length base ≡ c .before .before .loop .n → (c .before .before .loop .height ≡ 0 → base ≡ [])
+    → Tries A base base (freshCandidates (algebraOf A) (alphabetOf A) (c .before .before .loop .height) (c .before .before .loop .old) base) (c .round .last .1 .1 .1 .1 .1 .1 .0) (c .round .result)
 tried c A k t base h e f = c .round .ensures .1 A k t base h e f
 
 pub saturate-spec : {M : Type 1} → statement M
@@ -39,21 +39,19 @@ saturate-spec =
     (λ c. search needs)
     (λ c. search needs)
     (λ c.
-    let l = c .before .before .before .before .before .before .before .before .loop in
+    let l = c .before .before .before .before .before .before .before .loop in
     (l .inv .2, λ A k t. ends-found A (l .rows) (l .old) (l .n) (l .height) (l .inv .4 A k t) (search needs) (l .inv .2) _ _ (tried (c .before .before .before .before .before) A k t) (c .before .origin .given .1)))
     (λ c. search needs)
     (λ c. search needs)
     (λ c.
-    let l = c .before .before .before .before .before .before .before .before .before .loop in
+    let l = c .before .before .before .before .before .before .before .before .loop in
     (tt, λ A k t. ends-open A (l .rows) (l .old) (l .n) (l .height) (l .inv .4 A k t) (search needs) (l .inv .2) _ _ (tried (c .before .before .before .before .before .before) A k t) (c .before .before .m .given .1) (search needs)))
     (λ c. search needs)
     (λ c.
-    let l = c .before .before .before .before .before .before .before .before .before .before .loop in
+    let l = c .before .before .before .before .before .before .before .before .before .loop in
     (tt, λ A k t. ends-empty A (l .rows) (l .old) (l .n) (l .height) (l .inv .4 A k t) (search needs) (l .inv .2) _ _ (tried (c .before .before .before .before .before .before .before) A k t) (c .before .before .before .m .given .1) (search needs) (search needs)))
     (λ c. search needs)
     (λ c. search needs)
     (λ c.
-    let l = c .before .before .before .before .before .before .before .before .before .before .loop in
-    (search needs, search needs, search needs, search needs, λ A k t. goes-on A (l .rows) (l .old) (l .n) (l .height) (l .inv .4 A k t) (search needs) (l .inv .2) _ _ (tried (c .before .before .before .before .before .before .before) A k t) (c .before .before .before .m .given .1) (search needs) (search needs)))
-    (λ c. search needs)
-    (λ c. (tt, λ A k t. runs-out A _ _ _ _ (c .before .loop .inv .4 A k t) (search needs))))
+    let l = c .before .before .before .before .before .before .before .before .before .loop in
+    (search needs, search needs, search needs, search needs, λ A k t. goes-on A (l .rows) (l .old) (l .n) (l .height) (l .inv .4 A k t) (search needs) (l .inv .2) _ _ (tried (c .before .before .before .before .before .before .before) A k t) (c .before .before .before .m .given .1) (search needs) (search needs))))

@@ -13,7 +13,7 @@ use Rattle.transitions.specs.Transitions.{automatonOf}
 use Rattle.transitions.proofs.Meaning.{file-proper}
 use Rattle.overloops.specs.Prepared.{Prepared}
 use Rattle.overloops.proofs.Laws.{prepared-read}
-use Rattle.saturation.specs.Tries.{Read}
+use Rattle.candidates.specs.Tries.{Read}
 use Rattle.emptiness.specs.Surveyed.{Outcome, outcome, bufferCheck, surveyed}
 use Rattle.emptiness.specs.Demand3.{Demand3}
 use Rattle.emptiness.proofs.Proved.{surveyed-right}

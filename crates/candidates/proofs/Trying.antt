@@ -14,9 +14,9 @@ use Rattle.model.proofs.Turns.{absorb-append, absorb-at, first-here, first-late
 use Rattle.algorithms.specs.Automaton.{Automaton}
 use Rattle.algorithms.specs.Saturate.{Parts, algebraOf}
 use Rattle.representatives.specs.Stored.{originOf, classIn, Stored}
-use Rattle.saturation.specs.Tries.{Held, Holds, Tries, accepted, onward, Few}
+use Rattle.candidates.specs.Tries.{Held, Holds, Tries, accepted, onward, Few}
 use Rattle.representatives.specs.declared.Origin.{Origin}
-use Rattle.saturation.specs.declared.Tried.{Tried}
+use Rattle.candidates.specs.declared.Tried.{Tried}
 use Rattle.representatives.proofs.Table.{keep-full}
 
 module _ (A : Automaton) where

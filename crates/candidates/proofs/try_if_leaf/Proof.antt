@@ -1,13 +1,13 @@
--- `saturation::try_if_leaf` meets its contract.
+-- `candidates::try_if_leaf` meets its contract.
 -- Assumes nothing.
 use borrow.Author.Needs.{needs}
 use mathlib.Core.List.{[], _∷_}
 use Rattle.model.specs.Saturation.{leafCandidate}
 use Rattle.algorithms.specs.Saturate.{algebraOf}
 use Rattle.classes.proofs.Symbols.{in-set, not-in-set}
-use Rattle.saturation.proofs.Trying.{of-one, of-none}
-use Rattle.saturation.proofs.try_if_leaf.Statement.{statement}
-use Rattle.saturation.proofs.try_if_leaf.Tie as tie
+use Rattle.candidates.proofs.Trying.{of-one, of-none}
+use Rattle.candidates.proofs.try_if_leaf.Statement.{statement}
+use Rattle.candidates.proofs.try_if_leaf.Tie as tie
 
 pub try-if-leaf-spec : {M : Type 1} → statement M
 try-if-leaf-spec =

@@ -1,12 +1,12 @@
--- `saturation::first_right` meets its contract: the definition's cases.
+-- `candidates::first_right` meets its contract: the definition's cases.
 -- Assumes nothing.
 use borrow.Author.Needs.{needs}
 use Prim.Native.Nat.{_-_}
 use mathlib.Core.Path.{_≡_, refl}
 use native.Mathlib.Omega.{arith}
 use borrow.Author.Tests.{lt-ltb, le-ltb}
-use Rattle.saturation.proofs.first_right.Statement.{statement}
-use Rattle.saturation.proofs.first_right.Tie as tie
+use Rattle.candidates.proofs.first_right.Statement.{statement}
+use Rattle.candidates.proofs.first_right.Tie as tie
 
 pub first-right-spec : {M : Type 1} → statement M
 first-right-spec =

@@ -1,4 +1,4 @@
--- `saturation::try_lefts` meets its contract. The invariant: the left rows before were tried.
+-- `candidates::try_lefts` meets its contract. The invariant: the left rows before were tried.
 -- Assumes nothing.
 use borrow.Author.Needs.{needs}
 use Prim.Native.Nat.{_+_, _-_, _≤_}
@@ -9,12 +9,12 @@ use Rattle.model.specs.Lists.{countFrom}
 use Rattle.model.specs.Saturation.{Candidate}
 use Rattle.algorithms.specs.Automaton.{Automaton}
 use Rattle.algorithms.specs.Saturate.{algebraOf}
-use Rattle.saturation.specs.Tries.{Read, overLefts, Holds, Tries}
-use Rattle.saturation.specs.declared.Tried.{Tried}
+use Rattle.candidates.specs.Tries.{Read, overLefts, Holds, Tries}
+use Rattle.candidates.specs.declared.Tried.{Tried}
 use Rattle.classes.proofs.Symbols.{count-snoc, count-split}
-use Rattle.saturation.proofs.Trying.{begun, turn, ended, few-kept}
-use Rattle.saturation.proofs.try_lefts.Statement.{statement}
-use Rattle.saturation.proofs.try_lefts.Tie as tie
+use Rattle.candidates.proofs.Trying.{begun, turn, ended, few-kept}
+use Rattle.candidates.proofs.try_lefts.Statement.{statement}
+use Rattle.candidates.proofs.try_lefts.Tie as tie
 
 abbrev Inv-loop : tie.InvT-loop
 Inv-loop table header symbol old to rows₀ kept n₀ left₀ rows n left =

@@ -1,4 +1,4 @@
--- `saturation::try_node` meets its contract: one candidate, over the classes of two rows.
+-- `candidates::try_node` meets its contract: one candidate, over the classes of two rows.
 -- Assumes nothing.
 use borrow.Author.Needs.{needs}
 use Prim.Native.Nat.{_<_}
@@ -9,10 +9,10 @@ use Rattle.model.specs.Saturation.{Candidate, nodeCandidate}
 use Rattle.algorithms.specs.Automaton.{Automaton}
 use Rattle.algorithms.specs.Saturate.{Parts, algebraOf}
 use Rattle.classes.specs.Classes.{partsIn}
-use Rattle.saturation.specs.Tries.{Read, Holds}
-use Rattle.saturation.proofs.Trying.{one-accepted, one-full, one-kept, node-row-is, node-class-is, node-accepted-is}
-use Rattle.saturation.proofs.try_node.Statement.{statement}
-use Rattle.saturation.proofs.try_node.Tie as tie
+use Rattle.candidates.specs.Tries.{Read, Holds}
+use Rattle.candidates.proofs.Trying.{one-accepted, one-full, one-kept, node-row-is, node-class-is, node-accepted-is}
+use Rattle.candidates.proofs.try_node.Statement.{statement}
+use Rattle.candidates.proofs.try_node.Tie as tie
 
 -- the test is the candidate's, the classes being those of the two rows
 accepted-is : (c : tie.After-node-accepted) (A : Automaton) → Read A (c .before .before .before .before .before .before .before .args .header) (c .before .before .before .before .before .before .before .args .table .now) → (base kept : List (Candidate (algebraOf A)))

@@ -1,4 +1,4 @@
--- `saturation::try_rights` meets its contract. The invariant: the right rows before were tried.
+-- `candidates::try_rights` meets its contract. The invariant: the right rows before were tried.
 -- Assumes nothing.
 use borrow.Author.Needs.{needs}
 use Prim.Native.Nat.{_+_, _-_, _≤_}
@@ -9,12 +9,12 @@ use Rattle.model.specs.Lists.{countFrom}
 use Rattle.model.specs.Saturation.{Candidate, nodeCandidate}
 use Rattle.algorithms.specs.Automaton.{Automaton}
 use Rattle.algorithms.specs.Saturate.{algebraOf}
-use Rattle.saturation.specs.Tries.{Read, Holds, Tries}
-use Rattle.saturation.specs.declared.Tried.{Tried}
+use Rattle.candidates.specs.Tries.{Read, Holds, Tries}
+use Rattle.candidates.specs.declared.Tried.{Tried}
 use Rattle.classes.proofs.Symbols.{range-none, range-snoc, range-split, map-flat}
-use Rattle.saturation.proofs.Trying.{begun, turn, ended, few-kept}
-use Rattle.saturation.proofs.try_rights.Statement.{statement}
-use Rattle.saturation.proofs.try_rights.Tie as tie
+use Rattle.candidates.proofs.Trying.{begun, turn, ended, few-kept}
+use Rattle.candidates.proofs.try_rights.Statement.{statement}
+use Rattle.candidates.proofs.try_rights.Tie as tie
 
 abbrev Inv-loop : tie.InvT-loop
 Inv-loop table header symbol left from to rows₀ kept n₀ right₀ rows n right =

@@ -1,4 +1,4 @@
--- `saturation::try_leaves` meets its contract. The invariant: the leaf symbols before were tried.
+-- `candidates::try_leaves` meets its contract. The invariant: the leaf symbols before were tried.
 -- Assumes nothing.
 use borrow.Author.Needs.{needs}
 use Prim.Native.Nat.{_+_, _-_, _≤_}
@@ -9,12 +9,12 @@ use Rattle.model.specs.Saturation.{leafCandidate}
 use Rattle.algorithms.specs.Automaton.{Automaton, numbered}
 use Rattle.algorithms.specs.Saturate.{algebraOf}
 use Rattle.overloops.specs.Tables.{Leaves}
-use Rattle.saturation.specs.Tries.{Read, Tries}
-use Rattle.saturation.specs.declared.Tried.{Tried}
+use Rattle.candidates.specs.Tries.{Read, Tries}
+use Rattle.candidates.specs.declared.Tried.{Tried}
 use Rattle.classes.proofs.Symbols.{set-snoc, set-split}
-use Rattle.saturation.proofs.Trying.{no-rows, begun, turn, ended, few-kept}
-use Rattle.saturation.proofs.try_leaves.Statement.{statement}
-use Rattle.saturation.proofs.try_leaves.Tie as tie
+use Rattle.candidates.proofs.Trying.{no-rows, begun, turn, ended, few-kept}
+use Rattle.candidates.proofs.try_leaves.Statement.{statement}
+use Rattle.candidates.proofs.try_leaves.Tie as tie
 
 abbrev Inv-loop : tie.InvT-loop
 Inv-loop table leaves header rows₀ n₀ symbol₀ symbol-end rows n symbol =

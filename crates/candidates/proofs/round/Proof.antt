@@ -1,9 +1,9 @@
--- `saturation::round` meets its contract: the leaf symbols in round 0, the branch symbols later.
+-- `candidates::round` meets its contract: the leaf symbols in round 0, the branch symbols later.
 -- Assumes nothing.
 use borrow.Author.Needs.{needs}
-use Rattle.saturation.proofs.Ending.{leaves-tried, branches-tried}
-use Rattle.saturation.proofs.round.Statement.{statement}
-use Rattle.saturation.proofs.round.Tie as tie
+use Rattle.candidates.proofs.Rounds.{leaves-tried, branches-tried}
+use Rattle.candidates.proofs.round.Statement.{statement}
+use Rattle.candidates.proofs.round.Tie as tie
 
 pub round-spec : {M : Type 1} → statement M
 round-spec =

@@ -1,4 +1,4 @@
--- `saturation::try_branches` meets its contract. The invariant: the branch symbols before were tried.
+-- `candidates::try_branches` meets its contract. The invariant: the branch symbols before were tried.
 -- Assumes nothing.
 use borrow.Author.Needs.{needs}
 use Prim.Native.Nat.{_+_, _-_, _≤_}
@@ -8,12 +8,12 @@ use lib.ListN.{length}
 use Rattle.model.specs.Saturation.{Candidate}
 use Rattle.algorithms.specs.Automaton.{Automaton, numbered}
 use Rattle.algorithms.specs.Saturate.{algebraOf}
-use Rattle.saturation.specs.Tries.{Read, overRows, Holds, Tries}
-use Rattle.saturation.specs.declared.Tried.{Tried}
+use Rattle.candidates.specs.Tries.{Read, overRows, Holds, Tries}
+use Rattle.candidates.specs.declared.Tried.{Tried}
 use Rattle.classes.proofs.Symbols.{set-snoc, set-split}
-use Rattle.saturation.proofs.Trying.{begun, turn, ended, few-kept}
-use Rattle.saturation.proofs.try_branches.Statement.{statement}
-use Rattle.saturation.proofs.try_branches.Tie as tie
+use Rattle.candidates.proofs.Trying.{begun, turn, ended, few-kept}
+use Rattle.candidates.proofs.try_branches.Statement.{statement}
+use Rattle.candidates.proofs.try_branches.Tie as tie
 
 abbrev Inv-loop : tie.InvT-loop
 Inv-loop table header old to rows₀ n₀ symbol₀ symbol-end rows n symbol =

@@ -15,7 +15,7 @@ use Rattle.overloops.specs.Tables.{Of, Tabled}
 use Rattle.classes.specs.Classes.{HasSymbols}
 use Rattle.representatives.specs.Stored.{originOf, StoredAt, Stored}
 use Rattle.representatives.specs.declared.Origin.{Origin}
-use Rattle.saturation.specs.declared.Tried.{Tried}
+use Rattle.candidates.specs.declared.Tried.{Tried}
 
 -- the automaton of a header and a table of transitions
 pub record Read (A : Automaton) (h : Header) (table : List ℕ) : Type 0 where

@@ -1,11 +1,11 @@
--- `saturation::try_leaf` meets its contract: one candidate.
+-- `candidates::try_leaf` meets its contract: one candidate.
 -- Assumes nothing.
 use borrow.Author.Needs.{needs}
 use Rattle.model.specs.Saturation.{leafCandidate}
 use Rattle.algorithms.specs.Saturate.{algebraOf}
-use Rattle.saturation.proofs.Trying.{one-accepted, one-kept, leaf-row-is, leaf-class-is, leaf-accepted-is}
-use Rattle.saturation.proofs.try_leaf.Statement.{statement}
-use Rattle.saturation.proofs.try_leaf.Tie as tie
+use Rattle.candidates.proofs.Trying.{one-accepted, one-kept, leaf-row-is, leaf-class-is, leaf-accepted-is}
+use Rattle.candidates.proofs.try_leaf.Statement.{statement}
+use Rattle.candidates.proofs.try_leaf.Tie as tie
 
 pub try-leaf-spec : {M : Type 1} → statement M
 try-leaf-spec =

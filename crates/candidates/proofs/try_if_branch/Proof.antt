@@ -1,12 +1,12 @@
--- `saturation::try_if_branch` meets its contract: the candidates of the symbol, or none.
+-- `candidates::try_if_branch` meets its contract: the candidates of the symbol, or none.
 -- Assumes nothing.
 use borrow.Author.Needs.{needs}
 use Rattle.algorithms.specs.Saturate.{algebraOf}
-use Rattle.saturation.specs.Tries.{overRows}
+use Rattle.candidates.specs.Tries.{overRows}
 use Rattle.classes.proofs.Symbols.{in-set, not-in-set}
-use Rattle.saturation.proofs.Trying.{of-one, of-none}
-use Rattle.saturation.proofs.try_if_branch.Statement.{statement}
-use Rattle.saturation.proofs.try_if_branch.Tie as tie
+use Rattle.candidates.proofs.Trying.{of-one, of-none}
+use Rattle.candidates.proofs.try_if_branch.Statement.{statement}
+use Rattle.candidates.proofs.try_if_branch.Tie as tie
 
 pub try-if-branch-spec : {M : Type 1} → statement M
 try-if-branch-spec =
