@@ -2,10 +2,10 @@
 -- Assumes nothing.
 use Prim.Native.Nat.{ℕ, zero, suc, _+_, _-_, _/_, _%_, _<_, _≤_}
 use native.Mathlib.Omega.{arith}
-use mathlib.Core.Path.{_≡_, refl, sym, ap, _∙_}
+use mathlib.Core.Path.{_≡_, refl, ap, _∙_}
 use mathlib.Core.List.{List, [], _∷_, _++_}
-use lib.ListN.{length, getD, take, List·getD-append}
-use lib.Seq.{getD-append-add, take-at}
+use lib.ListN.{length, getD, List·getD-append}
+use lib.Seq.{getD-append-add}
 use Rattle.automaton.specs.Payload.{payloadOf}
 use Rattle.automaton.specs.declared.Header.{Header}
 use Rattle.blocks.specs.FileOf.{wordBytes}
@@ -64,7 +64,3 @@ module _ (h : Header) where
   pub branches-byte : (i : ℕ) → 16 ≤ i → i < 20 → getD (payloadOf h []) i 0 ≡ getD (wordBytes (h .branches)) (i - 16) 0
   unfolding payloadOf wordBytes
   branches-byte i lo hi = word-in (counts ++ wordBytes (h .initial) ++ wordBytes (h .accepting)) (h .branches) [] i lo hi
-
--- what was written is what stands at the front
-pub front : (n : ℕ) (x y z : List ℕ) → n ≡ length x → y ≡ x ++ z → take n y ≡ x
-front n x y z e f = ap (take n) f ∙ take-at x z n (sym e)

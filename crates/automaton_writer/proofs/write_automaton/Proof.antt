@@ -4,8 +4,9 @@ use borrow.Author.Needs.{needs}
 use native.Mathlib.Omega.{arith}
 use mathlib.Core.Path.{_≡_, ap}
 use lib.ListN.{length, take, length-append}
+use Rattle.block_writer.proofs.Front.{front}
 use Rattle.automaton.specs.Payload.{payloadOf}
-use Rattle.automaton_writer.proofs.Bytes.{payload-length, front}
+use Rattle.automaton_writer.proofs.Bytes.{payload-length}
 use Rattle.automaton_writer.proofs.write_automaton.Statement.{statement}
 use Rattle.automaton_writer.proofs.write_automaton.Tie as tie
 
