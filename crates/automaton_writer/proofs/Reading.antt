@@ -9,7 +9,6 @@ use mathlib.Core.List.{List, [], _∷_, _++_, map}
 use lib.Dec.{ltb}
 use lib.Pow.{pow-pos, pow-mono}
 use lib.ListN.{length, getD}
-use lib.Seq.{getD-append-add}
 use borrow.Author.Tests.{lt-ltb, eqb-true, not-false}
 use Rattle.blocks.specs.Blocks.{content}
 use Rattle.blocks.specs.FileOf.{fileOf, wordBytes}
@@ -33,6 +32,7 @@ use Rattle.automaton.specs.declared.Scope.{Scope}
 use Rattle.automaton.specs.declared.rules.PlaceByte.{PlaceByte}
 use Rattle.automaton.specs.declared.rules.MoveByte.{MoveByte}
 use Rattle.automaton.specs.declared.rules.RuleBytes.{RuleBytes}
+use Rattle.automaton_writer.proofs.Bytes.{payload-length, record-byte}
 use Rattle.automaton_writer.specs.ReadsBack.{Fits, FitsEach, Passing, ReadsBack}
 
 -- ---- the bytes of rules
@@ -146,10 +146,6 @@ sets-fit h few e =
       branches = set-fits (h .symbols) (h .branches) (few .symbols) (if-passed _ Fault.Set 0 16 (second .1));
     }
 
-pub payload-length : (h : Header) (records : List ℕ) → length (payloadOf h records) ≡ 20 + length records
-unfolding payloadOf wordBytes
-payload-length h records = omega arith
-
 -- offsets 3, 6 and 7 are the zero bytes, and they are 0
 zero-bytes : (h : Header) (records : List ℕ) (i : ℕ) → 200 / 2 ^ i % 2 ≡ 1 → getD (payloadOf h records) i 0 ≡ 0
 unfolding payloadOf
@@ -167,11 +163,6 @@ zero-bytes h records (suc (suc (suc (suc (suc (suc (suc (suc i)))))))) e =
     let few : 200 < 2 ^ 8 = omega arith in
     let small : 200 < 2 ^ j = lt-of-lt-of-le few (pow-mono {i = 8} {j = j} eight) in
     absurd (omega (arith, e, div-eq-of-lt small))
-
--- from offset 20 on stand the records
-record-byte : (h : Header) (records : List ℕ) (j : ℕ) → getD (payloadOf h records) (20 + j) 0 ≡ getD records j 0
-unfolding payloadOf wordBytes
-record-byte h records j = getD-append-add (payloadOf h []) records j 0
 
 -- ---- the file
 
@@ -213,7 +204,7 @@ module _ (h : Header) (rs : List Rule) (ok : Passing h rs) where
 
   at : (i j : ℕ) → i ≡ 20 + j → getD joined i 0 ≡ getD (recordsOf rs) j 0
   unfolding bytes
-  at i j e = joined-at i ∙ ap (λ (k : ℕ). getD bytes k 0) e ∙ record-byte h (recordsOf rs) j
+  at i j e = joined-at i ∙ record-byte h (recordsOf rs) i j e
 
   rule-known : (i : ℕ) (a : RuleAt h rs i) → ruleAt h joined i ≡ RuleBytes.Known (a .rule)
   unfolding ruleAt

@@ -1,7 +1,7 @@
 // Writes the file that holds a payload: the fewest blocks, zero filler, right checks.
 ghost use mathlib.Core.Path.{_≡_};
 ghost use mathlib.Core.List.{_++_};
-ghost use Prim.Native.Nat.{_+_, _*_, _<_, _≤_};
+ghost use Prim.Native.Nat.{_+_, _*_, _/_, _%_, _<_, _≤_};
 ghost use lib.ListN.{length, getD, drop};
 ghost use Rattle.blocks.specs.Blocks.{wordAt};
 ghost use Rattle.blocks.specs.FileOf.{blocksNeeded, checkFor, wordBytes, fileByte, fileOf};
@@ -62,16 +62,16 @@ pub fn word_byte(word: u32, k: usize) -> u8
     (word / 16777216 % 256) as u8
 }
 
-fn file_byte(payload: &[u8], i: usize) -> u8
-    requires { ⌜ i < 9223372036854775808 ⌝ }
+// Byte i of the file, where the check of its block is at hand if the byte is one of it.
+fn file_byte(payload: &[u8], check: u32, i: usize) -> u8
+    requires { ⌜ (i < 9223372036854775808) × (508 ≤ i % 512 → check ≡ checkFor (now payload) (i / 512)) ⌝ }
     ensures { λ r. ⌜ r ≡ fileByte (now (payload .entry)) i ⌝ }
 {
-    let b = i / 512;
     let at = i % 512;
     if at < 508 {
-        byte_at(payload, b * 508 + at)
+        byte_at(payload, i / 512 * 508 + at)
     } else {
-        word_byte(check_for(payload, b), at - 508)
+        word_byte(check, at - 508)
     }
 }
 
@@ -81,9 +81,13 @@ pub fn write_file(payload: &[u8], out: &mut [u8]) -> usize
     ensures { λ r. ⌜ (r ≡ length (fileOf (now (payload .entry)))) × (now (out .exit) ≡ fileOf (now (payload .entry)) ++ drop r (now (out .entry))) ⌝ }
 {
     let len = 512 * ((payload.len() + 507) / 508);
+    let mut check = 0;
     let mut i = 0;
     while i < len {
-        out[i] = file_byte(payload, i);
+        if i % 512 == 508 {
+            check = check_for(payload, i / 512);
+        }
+        out[i] = file_byte(payload, check, i);
         i += 1;
     }
     len

@@ -2,22 +2,25 @@
 -- Assumes nothing.
 use borrow.Author.Needs.{needs}
 use native.Mathlib.Omega.{arith}
-use Prim.Native.Nat.{_+_, _-_, _*_, _<_, _≤_}
+use Prim.Native.Nat.{_+_, _-_, _*_, _/_, _%_, _<_, _≤_}
 use mathlib.Core.Path.{_≡_, refl, sym, ap, _∙_}
 use mathlib.Core.List.{_++_}
+use mathlib.Core.Logic.{⊎-elim}
 use lib.ListN.{length, take, drop, length-set}
 use lib.Seq.{take-all}
 use Rattle.blocks.proofs.Laws.{copied-more}
-use Rattle.blocks.specs.FileOf.{fileOf, blocksNeeded}
+use Rattle.blocks.specs.FileOf.{blocksNeeded, checkFor, fileOf}
 use Rattle.blocks.proofs.Written.{file-length, file-at}
 use Rattle.block_writer.proofs.write_file.Statement.{statement}
 use Rattle.block_writer.proofs.write_file.Tie as tie
 
 abbrev Inv-loop : tie.InvT-loop
-Inv-loop payload out₀ len i₀ out i = (i ≤ len) × (length out ≡ length out₀) × (out ≡ take i (fileOf payload) ++ drop i out₀)
+Inv-loop payload out₀ len check₀ i₀ out check i =
+    (i ≤ len) × (length out ≡ length out₀) × (out ≡ take i (fileOf payload) ++ drop i out₀)
+    × (508 < i % 512 → check ≡ checkFor payload (i / 512))
 
 abbrev μ-loop : tie.MeasureT-loop
-μ-loop payload out₀ len i₀ out i = len - i
+μ-loop payload out₀ len check₀ i₀ out check i = len - i
 
 add-len : tie.Need-add-len Inv-loop μ-loop
 add-len c = search needs
@@ -26,10 +29,20 @@ mul-len : tie.Need-mul-len Inv-loop μ-loop
 mul-len c = search needs
 
 loop-holds : tie.Need-loop-holds Inv-loop μ-loop
-loop-holds c = (search needs, search needs, refl)
+loop-holds c = (search needs, search needs, refl, λ h. absurd (omega arith))
+
+check-for-requires : tie.Need-check-for-requires Inv-loop μ-loop
+check-for-requires c κs = search needs
+
+-- the check of a block that has begun
+at-hand : (c : tie.Joined1 Inv-loop μ-loop) → 508 ≤ c .before .before .loop .i % 512
+    → c .if1 .check ≡ checkFor (c .before .before .before .before .before .args .payload .now) (c .before .before .loop .i / 512)
+at-hand c h =
+    ⊎-elim (λ w. w .2 ∙ w .1 .ensures) (λ w. let past : 508 < c .before .before .loop .i % 512 = omega (arith, w .0 .left) in w .1 ∙ c .before .before .loop .inv .3 past)
+    (c .if1 .came)
 
 file-byte-requires : tie.Need-file-byte-requires Inv-loop μ-loop
-file-byte-requires c κs = search needs
+file-byte-requires c κs = (search needs, at-hand c)
 
 slice-write-out : tie.Need-slice-write-out Inv-loop μ-loop
 slice-write-out c = search needs
@@ -42,13 +55,16 @@ loop-less c = search needs
 
 loop-again : tie.Need-loop-again Inv-loop μ-loop
 loop-again c =
-    let l = c .before .before .loop in
-    let a = c .before .before .before .before .before .args in
+    let l = c .before .before .before .loop in
+    let a = c .before .before .before .before .before .before .args in
     let here : l .i < 512 * blocksNeeded (length (a .payload .now)) = search needs in (
       search needs,
       simp length-set (search needs),
       rw (l .inv .2, c .file-byte .ensures, ← file-at (a .payload .now) (l .i) here)
           (copied-more (fileOf (a .payload .now)) (a .out .now) (l .i) (rw (file-length (a .payload .now)) here) (search needs)),
+      λ h.
+          let same : (l .i + 1) / 512 ≡ l .i / 512 = omega arith in
+          at-hand (c .before) (omega arith) ∙ ap (checkFor (a .payload .now)) (sym same),
     )
 
 same-length : tie.Need-same-length Inv-loop μ-loop
@@ -72,6 +88,7 @@ write-file-spec =
     add-len
     mul-len
     loop-holds
+    check-for-requires
     file-byte-requires
     slice-write-out
     add-i

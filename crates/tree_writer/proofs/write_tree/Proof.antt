@@ -4,8 +4,8 @@ use borrow.Author.Needs.{needs}
 use native.Mathlib.Omega.{arith}
 use mathlib.Core.Path.{_≡_, ap}
 use lib.ListN.{length, take, length-append}
+use Rattle.block_writer.proofs.Front.{front}
 use Rattle.tree.specs.Payload.{payloadOf}
-use Rattle.tree_writer.proofs.Bytes.{front}
 use Rattle.tree_writer.proofs.Reading.{payload-length}
 use Rattle.tree_writer.proofs.write_tree.Statement.{statement}
 use Rattle.tree_writer.proofs.write_tree.Tie as tie

@@ -1,0 +1,4 @@
+-- Definitions: the nodes of a tree by number, their links, and what it is that these are the model's positions. proofs/ has the laws.
+pub mod Numbers
+pub mod Links
+pub mod Linked
