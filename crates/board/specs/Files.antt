@@ -3,7 +3,6 @@ use Prim.Native.Nat.{ℕ}
 use mathlib.Core.List.{List, [], _∷_, _++_}
 use Rattle.blocks.specs.FileOf.{fileOf}
 use Rattle.automaton.specs.Payload.{payloadOf}
-use Rattle.automaton.specs.declared.Header.{Header}
 use Rattle.tree.specs.Payload.{payloadOf as nodesPayload}
 
 -- the counts, the sets (bit i stands for number i), and then the bytes of the rules

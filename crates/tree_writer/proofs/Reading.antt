@@ -1,16 +1,16 @@
 -- Reading the file of a node list gives the nodes; reading the file of a tree gives the tree.
 -- Assumes nothing.
-use Prim.Native.Nat.{ℕ, zero, suc, _+_, _*_, _/_, _%_, _^_, _<_, _≤_}
+use Prim.Native.Nat.{ℕ, zero, suc, _+_, _/_, _%_, _^_, _<_, _≤_}
 use native.Mathlib.Omega.{arith}
 use native.Mathlib.Nat.{div-eq-of-lt, lt-of-lt-of-le}
-use mathlib.Core.Path.{_≡_, refl, sym, ap, _∙_}
-use mathlib.Core.List.{List, _++_}
+use mathlib.Core.Path.{_≡_, refl, ap, _∙_}
+use mathlib.Core.List.{List}
 use lib.Pow.{pow-mono}
-use lib.ListN.{length, getD, replicate}
+use lib.ListN.{length, getD}
 use lib.Seq.{take-at}
 use borrow.Author.Tests.{le-ltb}
 use Rattle.blocks.specs.Blocks.{content}
-use Rattle.blocks.specs.FileOf.{fileOf, blocksNeeded}
+use Rattle.blocks.specs.FileOf.{fileOf}
 use Rattle.blocks.proofs.Written.{file-content, file-content-at}
 use Rattle.model.specs.Trees.{Tree, leaf, node, height, size}
 use Rattle.model.specs.Counting.{Over}

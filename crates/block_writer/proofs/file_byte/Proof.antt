@@ -1,7 +1,6 @@
 -- `block_writer::file_byte` meets its contract.
 -- Assumes nothing.
 use borrow.Author.Needs.{needs}
-use mathlib.Core.Path.{_≡_}
 use borrow.Author.Tests.{lt-ltb, le-ltb}
 use Rattle.blocks.specs.FileOf.{fileByte}
 use Rattle.block_writer.proofs.file_byte.Statement.{statement}

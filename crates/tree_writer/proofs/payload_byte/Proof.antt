@@ -1,8 +1,7 @@
 -- `tree_writer::payload_byte` meets its contract.
 -- Assumes nothing.
 use borrow.Author.Needs.{needs}
-use mathlib.Core.Path.{_≡_, refl, sym}
-use Prim.Native.Nat.{ℕ, zero, suc, _<_}
+use mathlib.Core.Path.{_≡_, sym}
 use native.Mathlib.Omega.{arith}
 use Rattle.tree.specs.Payload.{payloadOf}
 use Rattle.tree_writer.proofs.Bytes.{payload-at}
