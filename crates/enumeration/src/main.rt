@@ -8,7 +8,6 @@ use emptiness::Quick;
 use emptiness::Survey;
 use enumerated::lists;
 use enumerated::plan;
-use enumerated::small;
 use refusal::Refusal;
 use sampling::access::number;
 use sampling::random::chance;

@@ -1,29 +1,26 @@
 -- Laws of the rounds: what a round ends with, or leaves to the next.
 -- Assumes nothing.
-use Prim.Native.Nat.{ℕ, zero, suc, _+_, _-_, _≤_, _<_}
+use Prim.Native.Nat.{ℕ, suc, _+_, _-_, _≤_, _<_}
 use mathlib.Core.Path.{_≡_, refl, sym, ap, _∙_}
 use mathlib.Core.Logic.{inl, inr}
 use mathlib.Core.Option.{none}
-use mathlib.Core.List.{List, [], _∷_, _++_, map, flatMap}
+use mathlib.Core.List.{List, [], _∷_, _++_, map}
 use native.Mathlib.Nat.{add-zero}
 use native.Mathlib.Omega.{arith}
 use borrow.Author.Tests.{lt-ltb, le-ltb, eq-eqb, ne-eqb}
 use lib.ListN.{length}
 use Rattle.model.specs.Lists.{Nth, here, there, countFrom}
 use Rattle.model.proofs.ListLaws.{nth-lt}
-use Rattle.model.specs.Counting.{Alphabet}
-use Rattle.model.specs.Saturation.{Algebra, Candidate, Verdict, leafCandidate, Found, Open, Empty, firstAccepted, absorb, rowsOf, settle, conclude, after}
+use Rattle.model.specs.Saturation.{Algebra, Candidate, Verdict, Found, Open, Empty, firstAccepted, absorb, rowsOf, settle, conclude, after}
 use Rattle.model.proofs.Turns.{absorb-longer}
-use Rattle.model.specs.Fresh.{freshNodes, freshCandidates, freshRound, freshRounds, freshSaturation}
-use Rattle.algorithms.specs.Automaton.{Automaton, numbered, alphabetOf}
+use Rattle.model.specs.Fresh.{freshCandidates, freshRound, freshRounds, freshSaturation}
+use Rattle.algorithms.specs.Automaton.{Automaton, alphabetOf}
 use Rattle.algorithms.specs.Saturate.{algebraOf, saturationOf}
 use Rattle.algorithms.proofs.Theorems.{fresh-same}
-use Rattle.automaton.specs.declared.Header.{Header}
 use Rattle.representatives.specs.Stored.{originOf, originIn, originsIn, Count}
-use Rattle.candidates.specs.Tries.{Read, overRows, Held, Holds, Tries, accepted, onward}
+use Rattle.candidates.specs.Tries.{Held, Holds, Tries, accepted, onward}
 use Rattle.representatives.specs.declared.Origin.{Origin}
 use Rattle.candidates.specs.declared.Tried.{Tried}
-use Rattle.classes.proofs.Symbols.{map-flat}
 use Rattle.candidates.proofs.Trying.{no-rows}
 
 module _ (A : Automaton) where

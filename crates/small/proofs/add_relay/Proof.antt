@@ -1,11 +1,11 @@
--- `enumerated::small::add_relay` ends, after 192 turns.
+-- `small::add_relay` ends, after 192 turns.
 -- Assumes nothing.
 use borrow.Author.Needs.{needs}
 use Prim.Native.Nat.{_-_, _≤_}
 use mathlib.Core.Path.{_≡_}
 use lib.ListN.{length}
-use Rattle.enumerated.proofs.small.add_relay.Statement.{statement}
-use Rattle.enumerated.proofs.small.add_relay.Tie as tie
+use Rattle.small.proofs.add_relay.Statement.{statement}
+use Rattle.small.proofs.add_relay.Tie as tie
 
 abbrev Inv-loop : tie.InvT-loop
 Inv-loop random₀ rules₀ more result₀ i₀ random rules result i = (i ≤ 192) × (length rules ≡ length rules₀)
