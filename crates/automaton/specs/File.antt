@@ -1,4 +1,5 @@
 -- What reading an automaton's file gives (document 01, the walker file): its header, lines 1 to 9 of the table of refusals, and the order.
+-- Interface: `headerOf`, `countsCheck`, `beyond`, `setsCheck`, `layoutCheck`, `LaidOut`, `bodyCheck`, `parsed`, `readAutomaton`.
 use Prim.Native.Nat.{ℕ, _+_, _*_, _/_, _^_, _≤_}
 use mathlib.Core.Bool.{Bool, not}
 use mathlib.Core.List.{List}

@@ -1,5 +1,6 @@
 -- The payload of an automaton's file (document 01, the walker file). `payloadOf`, of a header and the bytes of its rule records, and
 -- `recordsOf`, of rules, are the definitions to cite.
+-- Interface: `recordsOf`, `payloadOf`.
 use Prim.Native.Nat.{ℕ, _/_, _%_}
 use mathlib.Core.List.{List, [], _∷_, _++_}
 use Rattle.blocks.specs.FileOf.{wordBytes}

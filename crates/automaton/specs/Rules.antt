@@ -1,5 +1,6 @@
 -- The rules of an automaton's file: five bytes each, from offset 20 of the joined contents (document 01, the walker file), and lines 8
 -- and 9 of the table.
+-- Interface: `sortPlace`, `sortMove`, `ruleAt`, `mayBeRoot`, `misplaced`, `ruleCheck`.
 use Prim.Native.Nat.{ℕ, zero, suc, _+_, _*_}
 use mathlib.Core.Bool.{Bool, true, false, not, _&&_}
 use mathlib.Core.List.{List}

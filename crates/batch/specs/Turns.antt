@@ -1,4 +1,5 @@
 -- A batch that is read in turns, each into the same buffer: what was read in each turn, the latest in front.
+-- Interface: `Ended`.
 use mathlib.Core.Path.{_≡_}
 use mathlib.Core.Bool.{true, false}
 use mathlib.Core.List.{List, [], _∷_, _++_}

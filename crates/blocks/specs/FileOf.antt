@@ -1,4 +1,5 @@
 -- The file that holds a payload (document 01, Blocks). `fileOf` is the definition to cite; proofs/Written has what is read from it.
+-- Interface: `blocksNeeded`, `checkFor`, `wordBytes`, `fileByte`, `fileOf`.
 use Prim.Native.Nat.{ℕ, zero, suc, _+_, _-_, _*_, _/_, _%_, _^_}
 use mathlib.Core.Bool.{Bool, true, false}
 use mathlib.Core.List.{List, [], _∷_}

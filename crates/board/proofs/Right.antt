@@ -15,7 +15,7 @@ use Rattle.model.specs.Trees.{Tree}
 use Rattle.model.specs.declared.Signature.{Signature}
 use Rattle.model.specs.Saturation.{leafCandidate, classAt, nodeCandidate, nodeCandidates, candidates, firstIf, firstAccepted, known, keepIfNew}
 use Rattle.model.specs.Saturation.{absorb, settle, conclude, round, after, rounds, saturation}
-use Rattle.model.specs.Saturation.{Verdict, Found, Open, Empty, Unended}
+use Rattle.model.specs.Saturation.{Verdict, Found, Open, Empty}
 use Rattle.algorithms.specs.Automaton.{Automaton, Accepted}
 use Rattle.algorithms.specs.Overloops.{moves, leafLoops, nodeLoops, upClosure, leafOverloops, nodeOverloops, overloops, loops, accepts?}
 use Rattle.algorithms.specs.Saturate.{saturationOf}
@@ -42,7 +42,7 @@ use Rattle.membership.specs.Judged.{signatureOf, acceptedIf, judgedBy, judged}
 use Rattle.membership.specs.Demand2.{Judges}
 use Rattle.membership.proofs.Proved.{judged-right}
 use Rattle.membership.specs.declared.Answer.{Answer}
-use Rattle.emptiness.specs.Surveyed.{planBytes, told as toldSurvey, written, bufferCheck, outcome, surveyed}
+use Rattle.emptiness.specs.Surveyed.{planBytes, surveyOf, written, bufferCheck, answered, surveyed}
 use Rattle.emptiness.specs.Checked.{clearOr, checked}
 use Rattle.emptiness.proofs.Proved.{surveyed-right, checked-right}
 use Rattle.emptiness.specs.declared.Survey.{Survey}
@@ -74,13 +74,12 @@ planOf : Verdict → List ℕ
 planOf (Found h p) = planBytes p
 planOf (Open h) = []
 planOf (Empty h) = []
-planOf Unended = []
 
 surveySeen : Parsed → (w : List ℕ) → Seen
 surveySeen (Parsed.Refused r) w = refused
 surveySeen (Parsed.Read h) w =
     let A = automatonOf h (content w) in
-    surveyed-as (toldSurvey (saturationOf A)) (planOf (saturationOf A)) (clearOr (clear? A))
+    surveyed-as (surveyOf (saturationOf A)) (planOf (saturationOf A)) (clearOr (clear? A))
 
 seen : Row → Seen
 seen (judges w symbols t b) = judgingSeen (parsed w) w (letter symbols)
@@ -151,21 +150,20 @@ unfolding planOf
 plan-written (Found h p) buffer = ap (λ (n : ℕ). planBytes p ++ drop n buffer) (sym (bytes-length p))
 plan-written (Open h) buffer = refl
 plan-written (Empty h) buffer = refl
-plan-written Unended buffer = refl
 
 survey-read : (p : Parsed) (w : List ℕ) (answer : Survey) (plan : List ℕ) (quick : Quick) → surveySeen p w ≡ surveyed-as answer plan quick
-    → (h : Header) × (p ≡ Parsed.Read h) × (toldSurvey (saturationOf (automatonOf h (content w))) ≡ answer)
+    → (h : Header) × (p ≡ Parsed.Read h) × (surveyOf (saturationOf (automatonOf h (content w))) ≡ answer)
     × (planOf (saturationOf (automatonOf h (content w))) ≡ plan) × (clearOr (clear? (automatonOf h (content w))) ≡ quick)
 unfolding surveySeen
 survey-read (Parsed.Refused r) w answer plan quick e = clash (cc)
 survey-read (Parsed.Read h) w answer plan quick e = (h, refl, (cc), (cc), (cc))
 
 survey-as : (w : List ℕ) (h : Header) → parsed w ≡ Parsed.Read h → (buffer : List ℕ) → 195 ≤ length buffer
-    → surveyed w buffer ≡ planned (toldSurvey (saturationOf (automatonOf h (content w)))) (planOf (saturationOf (automatonOf h (content w)))) buffer
+    → surveyed w buffer ≡ planned (surveyOf (saturationOf (automatonOf h (content w)))) (planOf (saturationOf (automatonOf h (content w)))) buffer
 unfolding surveyed bufferCheck
 survey-as w h read buffer long =
     let v = saturationOf (automatonOf h (content w)) in
-    rw (read, le-ltb (length buffer) 195 long) (ap (outcome (toldSurvey v)) (plan-written v buffer))
+    rw (read, le-ltb (length buffer) 195 long) (ap (answered (surveyOf v)) (plan-written v buffer))
 
 quick-as : (w : List ℕ) (h : Header) → parsed w ≡ Parsed.Read h → checked w ≡ clearOr (clear? (automatonOf h (content w)))
 unfolding checked

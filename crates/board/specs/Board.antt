@@ -18,7 +18,7 @@ use Rattle.tree.specs.File.{nodesOf, readTree}
 use Rattle.tree.specs.Preorder.{Writes}
 use Rattle.tree.specs.declared.file.ParsedTree.{ParsedTree}
 use Rattle.membership.specs.Judged.{signatureOf, acceptedIf, judged}
-use Rattle.emptiness.specs.Surveyed.{Outcome, outcome, surveyed}
+use Rattle.emptiness.specs.Surveyed.{Answered, answered, surveyed}
 use Rattle.emptiness.specs.Checked.{checked}
 use Rattle.emptiness.specs.Demand3.{Surveys, Approximates}
 use Rattle.emptiness.specs.declared.Survey.{Survey}
@@ -60,8 +60,8 @@ pub record JudgesRight (w s : List ℕ) (t : Tree) (accepted : Bool) : Type 0 wh
   pub run : Accepted (automatonOf header (content w)) t ↔ T accepted
 
 -- the survey's answer, and a buffer that begins with the plan and is otherwise as it was
-abbrev pub planned : Survey → (plan buffer : List ℕ) → Outcome
-planned answer plan buffer = outcome answer (plan ++ drop (length plan) buffer)
+abbrev pub planned : Survey → (plan buffer : List ℕ) → Answered
+planned answer plan buffer = answered answer (plan ++ drop (length plan) buffer)
 
 -- the automaton's file w reads; survey and quick check answer what the row says, for every buffer of 195 bytes or more; and so demand 3 holds
 -- of these answers, over trees of every size

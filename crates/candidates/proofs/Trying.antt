@@ -14,7 +14,7 @@ use Rattle.model.proofs.Turns.{absorb-append, absorb-at, first-here, first-late
 use Rattle.algorithms.specs.Automaton.{Automaton}
 use Rattle.algorithms.specs.Saturate.{Parts, algebraOf}
 use Rattle.representatives.specs.Stored.{originOf, classIn, Stored}
-use Rattle.candidates.specs.Tries.{Held, Holds, Tries, accepted, onward, Few}
+use Rattle.candidates.specs.Tries.{Held, Keeps, Tries, accepted, onward, Few}
 use Rattle.representatives.specs.declared.Origin.{Origin}
 use Rattle.candidates.specs.declared.Tried.{Tried}
 use Rattle.representatives.proofs.Table.{keep-full}
@@ -26,12 +26,12 @@ module _ (A : Automaton) where
   abbrev Rows : Type 0
   Rows = List (Candidate M)
 
-  pub held : {base kept : Rows} {n : ℕ} {rows : List ℕ} → Holds A base kept n rows → Held A base rows
+  pub held : {base kept : Rows} {n : ℕ} {rows : List ℕ} → Keeps A base kept n rows → Held A base rows
   held h i c l m = h .stored .each i c l (h .extends i c m)
 
   -- ---- one candidate
 
-  module _ {base kept : Rows} {n : ℕ} {rows : List ℕ} (c : Candidate M) (h : Holds A base kept n rows) where
+  module _ {base kept : Rows} {n : ℕ} {rows : List ℕ} (c : Candidate M) (h : Keeps A base kept n rows) where
     pub one-accepted : (o : Origin) {b : Bool} → b ≡ c .accepted → b ≡ true → originOf o ≡ c .row → Tries A base kept (c ∷ []) rows (Tried.Accepted o)
     unfolding firstAccepted firstIf
     one-accepted o e t r = accepted c (rw (← e, t) refl) r (held h)
@@ -50,7 +50,7 @@ module _ (A : Automaton) where
 
   -- ---- a node over two rows
 
-  module _ {base kept : Rows} {n : ℕ} {rows : List ℕ} (h : Holds A base kept n rows) where
+  module _ {base kept : Rows} {n : ℕ} {rows : List ℕ} (h : Keeps A base kept n rows) where
     class-is : (i : ℕ) → i < length base → i < 64 → {x : Parts} → x ≡ classIn rows i → x ≡ classAt M base i
     unfolding classAt
     class-is i l few e =
@@ -86,7 +86,7 @@ module _ (A : Automaton) where
 
   -- ---- one after the other
 
-  none-tried : {base kept : Rows} {n : ℕ} {rows : List ℕ} → Holds A base kept n rows → Tries A base kept [] rows (Tried.Kept n)
+  none-tried : {base kept : Rows} {n : ℕ} {rows : List ℕ} → Keeps A base kept n rows → Tries A base kept [] rows (Tried.Kept n)
   unfolding firstAccepted absorb
   none-tried h = onward refl h
 
@@ -102,17 +102,17 @@ module _ (A : Automaton) where
   -- ---- the turns of a loop over a list: before the first, one turn, and where it ends early
 
   -- no row, whatever the table has
-  pub no-rows : {rows : List ℕ} → Holds A [] [] 0 rows
+  pub no-rows : {rows : List ℕ} → Keeps A [] [] 0 rows
   no-rows = record { stored = record { count = inl (refl, omega arith); each = λ i c l m. absurd (omega (arith, nth-lt m)) }; extends = λ i c m. m }
 
-  pub begun : {base kept cs : Rows} {n : ℕ} {rows : List ℕ} → cs ≡ [] → Holds A base kept n rows → Tries A base kept cs rows (Tried.Kept n)
+  pub begun : {base kept cs : Rows} {n : ℕ} {rows : List ℕ} → cs ≡ [] → Keeps A base kept n rows → Tries A base kept cs rows (Tried.Kept n)
   begun e h = rw e (none-tried h)
 
   pub turn : {base kept cs ds all : Rows} {n : ℕ} {rows rows′ : List ℕ} {r r′ : Tried} → all ≡ cs ++ ds → Tries A base kept cs rows (Tried.Kept n)
-      → (Holds A base (absorb M kept cs) n rows → Tries A base (absorb M kept cs) ds rows′ r) → r ≡ r′ → Tries A base kept all rows′ r′
+      → (Keeps A base (absorb M kept cs) n rows → Tries A base (absorb M kept cs) ds rows′ r) → r ≡ r′ → Tries A base kept all rows′ r′
   turn e k f same = rw (← same, e) (then-tried k (f (onward-holds k)))
     where
-      onward-holds : {base kept cs : Rows} {n : ℕ} {rows : List ℕ} → Tries A base kept cs rows (Tried.Kept n) → Holds A base (absorb M kept cs) n rows
+      onward-holds : {base kept cs : Rows} {n : ℕ} {rows : List ℕ} → Tries A base kept cs rows (Tried.Kept n) → Keeps A base (absorb M kept cs) n rows
       onward-holds (onward e h) = h
 
   pub ended : {base kept cs all : Rows} {o : Origin} {rows : List ℕ} (ds : Rows) → all ≡ cs ++ ds → Tries A base kept cs rows (Tried.Accepted o)
@@ -125,7 +125,7 @@ module _ (A : Automaton) where
   unfolding flatMap
   of-one f σ e t = rw (e, append-nil (f σ)) t
 
-  pub of-none : (f : ℕ → Rows) {base kept : Rows} {n : ℕ} {rows : List ℕ} {l : List ℕ} → l ≡ [] → Holds A base kept n rows
+  pub of-none : (f : ℕ → Rows) {base kept : Rows} {n : ℕ} {rows : List ℕ} {l : List ℕ} → l ≡ [] → Keeps A base kept n rows
       → Tries A base kept (flatMap f l) rows (Tried.Kept n)
   unfolding flatMap
   of-none f e h = rw e (none-tried h)

@@ -1,5 +1,6 @@
 -- What trying candidates one after the other gives: the first that is accepted, or the rows kept. In terms of the saturation's own
 -- functions on lists.
+-- Interface: `Read`, `overRows`, `Keeps`, `Tries`, `Few`.
 use mathlib.Core.Path.{_≡_}
 use mathlib.Core.Option.{none, some}
 use mathlib.Core.List.{List, map, flatMap}
@@ -37,7 +38,7 @@ module _ (A : Automaton) where
   Held base rows = (i : ℕ) (c : Candidate (algebraOf A)) → i < 64 → Nth base i c → StoredAt A rows i c
 
   -- the rows kept so far, n by count, with those that the round began with in front
-  pub record Holds (base kept : List (Candidate (algebraOf A))) (n : ℕ) (rows : List ℕ) : Type 0 where
+  pub record Keeps (base kept : List (Candidate (algebraOf A))) (n : ℕ) (rows : List ℕ) : Type 0 where
     pub stored : Stored A rows n kept
     pub extends : (i : ℕ) (c : Candidate (algebraOf A)) → Nth base i c → Nth kept i c
 
@@ -45,7 +46,7 @@ module _ (A : Automaton) where
   pub data Tries (base kept cs : List (Candidate (algebraOf A))) (rows : List ℕ) : Tried → Type 0 where
     accepted : {o : Origin} (c : Candidate (algebraOf A)) → firstAccepted (algebraOf A) cs ≡ some c → originOf o ≡ c .row → Held base rows
         → Tries base kept cs rows (Tried.Accepted o)
-    onward : {n : ℕ} → firstAccepted (algebraOf A) cs ≡ none → Holds base (absorb (algebraOf A) kept cs) n rows → Tries base kept cs rows (Tried.Kept n)
+    onward : {n : ℕ} → firstAccepted (algebraOf A) cs ≡ none → Keeps base (absorb (algebraOf A) kept cs) n rows → Tries base kept cs rows (Tried.Kept n)
 
 -- a count of rows is at most 65
 abbrev pub Few : Tried → Type 0

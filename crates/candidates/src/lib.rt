@@ -23,7 +23,7 @@ ghost use Rattle.model.specs.Fresh.{rights, freshCandidates};
 ghost use Rattle.algorithms.specs.Automaton.{Automaton, consIf, numbered, alphabetOf};
 ghost use Rattle.algorithms.specs.Saturate.{algebraOf};
 ghost use Rattle.overloops.specs.Tables.{Leaves};
-ghost use Rattle.candidates.specs.Tries.{Read, overRows, Holds, Tries, Few};
+ghost use Rattle.candidates.specs.Tries.{Read, overRows, Keeps, Tries, Few};
 
 // What trying candidates gives: the first that is accepted, or the count of the rows kept (65 for more than 64).
 pub enum Tried {
@@ -43,7 +43,7 @@ fn try_leaf(
     requires { ⌜ (length (now table) ≡ 9216) × (length (now leaves) ≡ 1536) × (header .states ≤ 24) × (symbol .0 < 32)
         × (length (now rows) ≡ 3264) × (n ≤ 65) ⌝ }
     ensures { λ r. ⌜ Few r × ((A : Automaton) → Read A header (now (table .entry)) → Leaves A (now (leaves .entry))
-        → (base kept : List (Candidate (algebraOf A))) → Holds A base kept n (now (rows .entry))
+        → (base kept : List (Candidate (algebraOf A))) → Keeps A base kept n (now (rows .entry))
         → Tries A base kept (leafCandidate (algebraOf A) (symbol .0) ∷ []) (now (rows .exit)) r) ⌝ }
 {
     let origin = Origin {
@@ -70,7 +70,7 @@ fn try_node(
     requires { ⌜ (length (now table) ≡ 9216) × (header .states ≤ 24) × (symbol .0 < 32) × (left .0 < 64) × (right .0 < 64)
         × (length (now rows) ≡ 3264) × (n ≤ 65) ⌝ }
     ensures { λ r. ⌜ Few r × ((A : Automaton) → Read A header (now (table .entry))
-        → (base kept : List (Candidate (algebraOf A))) → Holds A base kept n (now (rows .entry)) → left .0 < length base → right .0 < length base
+        → (base kept : List (Candidate (algebraOf A))) → Keeps A base kept n (now (rows .entry)) → left .0 < length base → right .0 < length base
         → Tries A base kept (nodeCandidate (algebraOf A) base (symbol .0) (left .0) (right .0) ∷ []) (now (rows .exit)) r) ⌝ }
 {
     let l = class_at(rows, left);
@@ -108,7 +108,7 @@ fn try_rights(
     requires { ⌜ (length (now table) ≡ 9216) × (header .states ≤ 24) × (symbol .0 < 32) × (left .0 < to) × (from ≤ to) × (to ≤ 64)
         × (length (now rows) ≡ 3264) × (kept ≤ 65) ⌝ }
     ensures { λ r. ⌜ Few r × ((A : Automaton) → Read A header (now (table .entry))
-        → (base before : List (Candidate (algebraOf A))) → Holds A base before kept (now (rows .entry)) → length base ≡ to
+        → (base before : List (Candidate (algebraOf A))) → Keeps A base before kept (now (rows .entry)) → length base ≡ to
         → Tries A base before (map (λ b. nodeCandidate (algebraOf A) base (symbol .0) (left .0) b) (countFrom from (to - from))) (now (rows .exit)) r) ⌝ }
 {
     let mut n = kept;
@@ -141,7 +141,7 @@ fn try_lefts(
     requires { ⌜ (length (now table) ≡ 9216) × (header .states ≤ 24) × (symbol .0 < 32) × (old ≤ to) × (to ≤ 64)
         × (length (now rows) ≡ 3264) × (kept ≤ 65) ⌝ }
     ensures { λ r. ⌜ Few r × ((A : Automaton) → Read A header (now (table .entry))
-        → (base before : List (Candidate (algebraOf A))) → Holds A base before kept (now (rows .entry)) → length base ≡ to
+        → (base before : List (Candidate (algebraOf A))) → Keeps A base before kept (now (rows .entry)) → length base ≡ to
         → Tries A base before (overRows (algebraOf A) base old to (symbol .0)) (now (rows .exit)) r) ⌝ }
 {
     let mut n = kept;
@@ -169,7 +169,7 @@ fn try_if_branch(
     requires { ⌜ (length (now table) ≡ 9216) × (header .states ≤ 24) × (symbol .0 < 32) × (old ≤ to) × (to ≤ 64)
         × (length (now rows) ≡ 3264) × (kept ≤ 65) ⌝ }
     ensures { λ r. ⌜ Few r × ((A : Automaton) → Read A header (now (table .entry))
-        → (base before : List (Candidate (algebraOf A))) → Holds A base before kept (now (rows .entry)) → length base ≡ to
+        → (base before : List (Candidate (algebraOf A))) → Keeps A base before kept (now (rows .entry)) → length base ≡ to
         → Tries A base before (flatMap (overRows (algebraOf A) base old to) (consIf (eqb (bit (header .branches) (symbol .0)) 1) (symbol .0) [])) (now (rows .exit)) r) ⌝ }
 {
     if is_branch(header.branches, symbol) {
@@ -183,7 +183,7 @@ fn try_if_branch(
 fn try_branches(table: &[u32], header: Header, old: usize, to: usize, rows: &mut [u32]) -> Tried
     requires { ⌜ (length (now table) ≡ 9216) × (header .states ≤ 24) × (header .symbols ≤ 32) × (old ≤ to) × (to ≤ 64) × (length (now rows) ≡ 3264) ⌝ }
     ensures { λ r. ⌜ Few r × ((A : Automaton) → Read A header (now (table .entry))
-        → (base : List (Candidate (algebraOf A))) → Holds A base base to (now (rows .entry)) → length base ≡ to
+        → (base : List (Candidate (algebraOf A))) → Keeps A base base to (now (rows .entry)) → length base ≡ to
         → Tries A base base (flatMap (overRows (algebraOf A) base old to) (numbered 1 (header .branches) 0 (header .symbols))) (now (rows .exit)) r) ⌝ }
 {
     let mut n = to;
@@ -208,7 +208,7 @@ fn try_if_leaf(
     requires { ⌜ (length (now table) ≡ 9216) × (length (now leaves) ≡ 1536) × (header .states ≤ 24) × (symbol .0 < 32)
         × (length (now rows) ≡ 3264) × (kept ≤ 65) ⌝ }
     ensures { λ r. ⌜ Few r × ((A : Automaton) → Read A header (now (table .entry)) → Leaves A (now (leaves .entry))
-        → (base before : List (Candidate (algebraOf A))) → Holds A base before kept (now (rows .entry))
+        → (base before : List (Candidate (algebraOf A))) → Keeps A base before kept (now (rows .entry))
         → Tries A base before (flatMap (λ σ. leafCandidate (algebraOf A) σ ∷ []) (consIf (eqb (bit (header .branches) (symbol .0)) 0) (symbol .0) [])) (now (rows .exit)) r) ⌝ }
 {
     if is_branch(header.branches, symbol) {
@@ -247,7 +247,7 @@ pub fn round(
     requires { ⌜ (length (now table) ≡ 9216) × (length (now leaves) ≡ 1536) × (header .states ≤ 24) × (header .symbols ≤ 32) × (old ≤ n) × (n ≤ 64)
         × (length (now rows) ≡ 3264) ⌝ }
     ensures { λ r. ⌜ Few r × ((A : Automaton) → Read A header (now (table .entry)) → Leaves A (now (leaves .entry))
-        → (base : List (Candidate (algebraOf A))) → Holds A base base n (now (rows .entry)) → length base ≡ n → (height ≡ 0 → base ≡ [])
+        → (base : List (Candidate (algebraOf A))) → Keeps A base base n (now (rows .entry)) → length base ≡ n → (height ≡ 0 → base ≡ [])
         → Tries A base base (freshCandidates (algebraOf A) (alphabetOf A) height old base) (now (rows .exit)) r) ⌝ }
 {
     if height == 0 {

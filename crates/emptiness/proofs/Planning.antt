@@ -18,7 +18,7 @@ use Rattle.refusal.specs.declared.Check.{Check}
 use Rattle.refusal.specs.declared.Fault.{Fault}
 use Rattle.refusal.proofs.Passed.{clash}
 use Rattle.representatives.specs.Stored.{originOf, originIn, originsIn}
-use Rattle.emptiness.specs.Surveyed.{planBytes, told, written, bufferCheck}
+use Rattle.emptiness.specs.Surveyed.{planBytes, surveyOf, written, bufferCheck}
 use Rattle.saturation.specs.Ends.{verdictOf, FoundFew}
 use Rattle.emptiness.specs.declared.Survey.{Survey}
 use Rattle.representatives.specs.declared.Origin.{Origin}
@@ -82,16 +82,16 @@ leftAs (Verdict.Found h n o) rows plan = planBytes (originsIn rows n ++ originOf
 leftAs (Verdict.Open h) rows plan = plan
 leftAs (Verdict.Empty h) rows plan = plan
 
-as-told : (r : Verdict) (rows plan : List ℕ) → (toldAs r ≡ told (verdictOf r rows)) × (leftAs r rows plan ≡ written (verdictOf r rows) plan)
+as-told : (r : Verdict) (rows plan : List ℕ) → (toldAs r ≡ surveyOf (verdictOf r rows)) × (leftAs r rows plan ≡ written (verdictOf r rows) plan)
 as-told (Verdict.Found h n o) rows plan =
     let count : length (originsIn rows n ++ originOf o ∷ []) ≡ n + 1 = length-append (originsIn rows n) (originOf o ∷ []) ∙ ap (λ (k : ℕ). k + 1) (origins-length rows n) in
     (rw count refl, rw count refl)
 as-told (Verdict.Open h) rows plan = (refl, refl)
 as-told (Verdict.Empty h) rows plan = (refl, refl)
 
-pub answered : (v : saturation.Verdict) (r r′ : Verdict) (rows plan plan′ : List ℕ) → v ≡ verdictOf r rows → r ≡ r′ → plan′ ≡ leftAs r′ rows plan
-    → (toldAs r′ ≡ told v) × (plan′ ≡ written v plan)
-answered v r r′ rows plan plan′ e f g = rw (e, f, g) (as-told r′ rows plan)
+pub verdict-told : (v : saturation.Verdict) (r r′ : Verdict) (rows plan plan′ : List ℕ) → v ≡ verdictOf r rows → r ≡ r′ → plan′ ≡ leftAs r′ rows plan
+    → (toldAs r′ ≡ surveyOf v) × (plan′ ≡ written v plan)
+verdict-told v r r′ rows plan plan′ e f g = rw (e, f, g) (as-told r′ rows plan)
 
 pub found-few : {r : Verdict} {h n : ℕ} {o : Origin} → r ≡ Verdict.Found h n o → FoundFew r → n ≤ 64
 found-few e f = rw e at f

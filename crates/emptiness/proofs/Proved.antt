@@ -9,17 +9,18 @@ use borrow.Author.Tests.{le-ltb}
 use lib.Dec.{T}
 use lib.ListN.{length, drop}
 use Rattle.model.specs.Counting.{Counts}
-use Rattle.model.specs.Saturation.{WitnessRow, Verdict, Found, Open, Empty, Unended}
+use Rattle.model.specs.Saturation.{WitnessRow, Verdict, Found, Open, Empty}
 use Rattle.model.specs.Demand.{Told, Correct}
 use Rattle.algorithms.specs.Automaton.{Automaton, Proper, alphabetOf}
 use Rattle.algorithms.specs.Saturate.{languageOf, saturationOf}
-use Rattle.algorithms.specs.Approximate.{clear?}
+use Rattle.algorithms.specs.Approximate.{leastParts, setsOf, clear?}
+use Rattle.algorithms.proofs.LeastSets.{parts-least, clear-has, clear-sound}
 use Rattle.algorithms.proofs.Theorems.{demand-3, count-exists, count-unique}
 use Rattle.blocks.specs.Blocks.{content}
 use Rattle.refusal.proofs.Passed.{clash}
 use Rattle.transitions.specs.Transitions.{automatonOf}
 use Rattle.transitions.proofs.Meaning.{file-proper}
-use Rattle.emptiness.specs.Surveyed.{planBytes, told, written, bufferCheck, outcome, surveyed}
+use Rattle.emptiness.specs.Surveyed.{planBytes, surveyOf, written, bufferCheck, answered, surveyed}
 use Rattle.emptiness.specs.Checked.{clearOr, checked}
 use Rattle.emptiness.specs.Demand3.{Planned, AtMost64, Surveys, Demand3, Approximates, Demand3Quick}
 use Rattle.emptiness.specs.declared.Survey.{Survey}
@@ -28,39 +29,34 @@ use Rattle.refusal.specs.declared.Refusal.{Refusal}
 
 -- ---- a verdict and how it is told
 
--- what is told of a verdict, back to the verdict; where the rounds ran out nothing right is told
-found-back : (v : Verdict) (h rows : ℕ) → told v ≡ Survey.Found h rows → (p : List WitnessRow) × (v ≡ Found h p) × (rows ≡ length p)
+-- what is told of a verdict, back to the verdict
+found-back : (v : Verdict) (h rows : ℕ) → surveyOf v ≡ Survey.Found h rows → (p : List WitnessRow) × (v ≡ Found h p) × (rows ≡ length p)
 found-back (Found k p) h rows e =
     let same : k ≡ h = cc in
     let count : length p ≡ rows = cc in
     (p, ap (λ (n : ℕ). Found n p) same, sym count)
 found-back (Open k) h rows e = clash (cc)
 found-back (Empty k) h rows e = clash (cc)
-found-back Unended h rows e = clash (cc)
 
-open-back : (v : Verdict) → Told 64 v → (h : ℕ) → told v ≡ Survey.Open h → v ≡ Open h
-open-back (Found k p) t h e = clash (cc)
-open-back (Open k) t h e = let same : k ≡ h = cc in ap Open same
-open-back (Empty k) t h e = clash (cc)
-open-back Unended t h e = absurd t
+open-back : (v : Verdict) (h : ℕ) → surveyOf v ≡ Survey.Open h → v ≡ Open h
+open-back (Found k p) h e = clash (cc)
+open-back (Open k) h e = let same : k ≡ h = cc in ap Open same
+open-back (Empty k) h e = clash (cc)
 
-empty-back : (v : Verdict) (h : ℕ) → told v ≡ Survey.Empty h → v ≡ Empty h
+empty-back : (v : Verdict) (h : ℕ) → surveyOf v ≡ Survey.Empty h → v ≡ Empty h
 empty-back (Found k p) h e = clash (cc)
 empty-back (Open k) h e = clash (cc)
 empty-back (Empty k) h e = let same : k ≡ h = cc in ap Empty same
-empty-back Unended h e = clash (cc)
 
-height-told : (v : Verdict) → Told 64 v → AtMost64 (told v)
+height-told : (v : Verdict) → Told 64 v → AtMost64 (surveyOf v)
 height-told (Found k p) t = t
 height-told (Open k) t = t
 height-told (Empty k) t = t
-height-told Unended t = absurd t
 
-buffer-kept : (v : Verdict) (before : List ℕ) → ((h rows : ℕ) → told v ≡ Survey.Found h rows → ⊥) → written v before ≡ before
+buffer-kept : (v : Verdict) (before : List ℕ) → ((h rows : ℕ) → surveyOf v ≡ Survey.Found h rows → ⊥) → written v before ≡ before
 buffer-kept (Found k p) before n = absurd (n k (length p) refl)
 buffer-kept (Open k) before n = refl
 buffer-kept (Empty k) before n = refl
-buffer-kept Unended before n = refl
 
 bytes-written : (v : Verdict) (h rows : ℕ) (p : List WitnessRow) (before : List ℕ) → v ≡ Found h p → rows ≡ length p
     → written v before ≡ planBytes p ++ drop (3 * rows) before
@@ -88,9 +84,9 @@ module _ (A : Automaton) (P : Proper A) where
 
 module _ (A : Automaton) (P : Proper A) (before : List ℕ) where
   correct : Correct (alphabetOf A) (languageOf A) 64 (saturationOf A)
-  correct = demand-3 A P .saturation
+  correct = demand-3 A P
 
-  planned : (h rows : ℕ) → told (saturationOf A) ≡ Survey.Found h rows → Planned A h rows before (written (saturationOf A) before)
+  planned : (h rows : ℕ) → surveyOf (saturationOf A) ≡ Survey.Found h rows → Planned A h rows before (written (saturationOf A) before)
   planned h rows e =
       let f = found-back (saturationOf A) h rows e in
       record {
@@ -101,7 +97,7 @@ module _ (A : Automaton) (P : Proper A) (before : List ℕ) where
         bytes = bytes-written (saturationOf A) h rows (f .0) before (f .1) (f .2);
       }
 
-  surveys : Surveys A before (outcome (told (saturationOf A)) (written (saturationOf A) before))
+  surveys : Surveys A before (answered (surveyOf (saturationOf A)) (written (saturationOf A) before))
   surveys =
       record {
         N = λ h. count-exists A P (suc h) .0;
@@ -109,11 +105,11 @@ module _ (A : Automaton) (P : Proper A) (before : List ℕ) where
         counts-none = counts-is A P 0 0 (none-counted A P);
         found = λ h. (
           λ x. let f = found-back (saturationOf A) h (x .0) (x .1) in correct .says-found h .0 (f .0, f .1),
-          λ a. let f = correct .says-found h .1 a in (length (f .0), ap told (f .1)),
+          λ a. let f = correct .says-found h .1 a in (length (f .0), ap surveyOf (f .1)),
         );
         plan = planned;
-        open-says = λ h. (λ e. correct .says-open h .0 (open-back (saturationOf A) (correct .told) h e), λ a. ap told (correct .says-open h .1 a));
-        empty = λ h. (λ e. correct .says-empty h .0 (empty-back (saturationOf A) h e), λ a. ap told (correct .says-empty h .1 a));
+        open-says = λ h. (λ e. correct .says-open h .0 (open-back (saturationOf A) h e), λ a. ap surveyOf (correct .says-open h .1 a));
+        empty = λ h. (λ e. correct .says-empty h .0 (empty-back (saturationOf A) h e), λ a. ap surveyOf (correct .says-empty h .1 a));
         height = height-told (saturationOf A) (correct .told);
         kept = buffer-kept (saturationOf A) before;
       }
@@ -144,14 +140,13 @@ not-refused false r e = clash (cc)
 
 approximates : (A : Automaton) → Proper A → Approximates A (clearOr (clear? A))
 approximates A P =
-    let d = demand-3 A P in
     record {
-      sets = d .sets;
-      least = d .least;
-      clear = clear-told (clear? A) (d .answer);
-      unsure = unsure-told (clear? A) (d .answer);
+      sets = setsOf A (leastParts A);
+      least = parts-least A P;
+      clear = clear-told (clear? A) (clear-has A P);
+      unsure = unsure-told (clear? A) (clear-has A P);
       no-refusal = not-refused (clear? A);
-      sound = λ e. d .sound (clear-is (clear? A) e);
+      sound = λ e. clear-sound A P (clear-is (clear? A) e);
     }
 
 pub checked-right : (w : List ℕ) → Demand3Quick w (checked w)

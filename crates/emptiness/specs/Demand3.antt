@@ -1,5 +1,6 @@
 -- Demand 3, of the survey's answer to an automaton's file and a plan buffer, and of the buffer afterwards; and of the quick check's answer.
 -- Definitions only, of trees, runs and counts; the plan is document 01's survey's. The quotations are of demand 3.
+-- Interface: `Surveys`, `Demand3`, `Approximates`, `Demand3Quick`.
 use mathlib.Core.Path.{_≡_}
 use mathlib.Core.Logic.{_↔_}
 use mathlib.Core.List.{List, _++_}
@@ -18,7 +19,7 @@ use Rattle.automaton.specs.File.{parsed}
 use Rattle.automaton.specs.declared.Header.{Header}
 use Rattle.automaton.specs.declared.file.Parsed.{Parsed}
 use Rattle.transitions.specs.Transitions.{automatonOf}
-use Rattle.emptiness.specs.Surveyed.{planBytes, Outcome}
+use Rattle.emptiness.specs.Surveyed.{planBytes, Answered}
 use Rattle.emptiness.specs.declared.Survey.{Survey}
 use Rattle.emptiness.specs.declared.Quick.{Quick}
 
@@ -41,7 +42,7 @@ AtMost64 (Survey.Empty h) = h ≤ 64
 AtMost64 (Survey.Refused r) = ⊥
 
 -- of an automaton that was read, and a buffer of 195 bytes or more
-pub record Surveys (A : Automaton) (before : List ℕ) (o : Outcome) : Type 0 where
+pub record Surveys (A : Automaton) (before : List ℕ) (o : Answered) : Type 0 where
   -- "N(h) counts the trees of height at most h, alike ones once, and N(-1) is 0." Each is one number: what is counted is N(h), and nothing else.
   pub N : ℕ → ℕ
   pub counts : (h n : ℕ) → Counts (alphabetOf A) (languageOf A) (suc h) n ↔ (n ≡ N h)
@@ -59,7 +60,7 @@ pub record Surveys (A : Automaton) (before : List ℕ) (o : Outcome) : Type 0 wh
   pub kept : ((h rows : ℕ) → o .answer ≡ Survey.Found h rows → ⊥) → o .buffer ≡ before
 
 -- "Take every walker file that reads without refusal and every plan buffer of 195 bytes or more, whatever stands in it."
-abbrev pub Demand3 : (w before : List ℕ) → Outcome → Type 0
+abbrev pub Demand3 : (w before : List ℕ) → Answered → Type 0
 Demand3 w before o = (h : Header) → parsed w ≡ Parsed.Read h → 195 ≤ length before → Surveys (automatonOf h (content w)) before o
 
 -- "the root set has no way up from a start state to acceptance" (document 01)

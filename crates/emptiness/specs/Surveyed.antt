@@ -1,9 +1,10 @@
 -- What the survey of an automaton's file answers, and what it leaves in the lent plan buffer (document 01, Survey; line 13 of the table).
+-- Interface: `planBytes`, `surveyOf`, `written`, `bufferCheck`, `Answered`, `answered`, `surveyed`.
 use mathlib.Core.List.{List, [], _∷_, _++_}
 use Prim.Native.Nat.{ℕ, _*_}
 use lib.ListN.{length, drop}
 use lib.Dec.{ltb}
-use Rattle.model.specs.Saturation.{WitnessRow, Verdict, Found, Open, Empty, Unended}
+use Rattle.model.specs.Saturation.{WitnessRow, Verdict, Found, Open, Empty}
 use Rattle.algorithms.specs.Automaton.{Automaton}
 use Rattle.algorithms.specs.Saturate.{saturationOf}
 use Rattle.refusal.specs.Checks.{refuseIf}
@@ -18,36 +19,34 @@ abbrev pub planBytes : List WitnessRow → List ℕ
 planBytes [] = []
 planBytes (r ∷ rows) = r .symbol ∷ r .left ∷ r .right ∷ planBytes rows
 
--- a verdict as it is told: its height, and the number of rows on Found. (That the rounds never run out is part of demand 3; 255 is no height.)
-abbrev pub told : Verdict → Survey
-told (Found h p) = Survey.Found h (length p)
-told (Open h) = Survey.Open h
-told (Empty h) = Survey.Empty h
-told Unended = Survey.Open 255
+-- a verdict as it is told: its height, and the number of rows on Found.
+abbrev pub surveyOf : Verdict → Survey
+surveyOf (Found h p) = Survey.Found h (length p)
+surveyOf (Open h) = Survey.Open h
+surveyOf (Empty h) = Survey.Empty h
 
 -- "Found writes the rows ..; later bytes, and the whole buffer on other verdicts, are unchanged."
 abbrev pub written : Verdict → (buffer : List ℕ) → List ℕ
 written (Found h p) buffer = planBytes p ++ drop (3 * length p) buffer
 written (Open h) buffer = buffer
 written (Empty h) buffer = buffer
-written Unended buffer = buffer
 
 -- 13: plan buffer under 195 bytes; at 195; file 2
 unfoldable pub bufferCheck : List ℕ → Check
 bufferCheck buffer = refuseIf (ltb (length buffer) 195) Fault.Buffer 2 195
 
 -- an answer, and the buffer afterwards
-pub record Outcome : Type 0 where
+pub record Answered : Type 0 where
   pub answer : Survey
   pub buffer : List ℕ
 
-abbrev pub outcome : Survey → List ℕ → Outcome
-outcome answer buffer = record { answer = answer; buffer = buffer }
+abbrev pub answered : Survey → List ℕ → Answered
+answered answer buffer = record { answer = answer; buffer = buffer }
 
-abbrev pub afterCheck : Check → Automaton → (buffer : List ℕ) → Outcome
-afterCheck (Check.Refused r) A buffer = outcome (Survey.Refused r) buffer
-afterCheck Check.Passed A buffer = outcome (told (saturationOf A)) (written (saturationOf A) buffer)
+abbrev pub afterCheck : Check → Automaton → (buffer : List ℕ) → Answered
+afterCheck (Check.Refused r) A buffer = answered (Survey.Refused r) buffer
+afterCheck Check.Passed A buffer = answered (surveyOf (saturationOf A)) (written (saturationOf A) buffer)
 
 -- the survey of an automaton's file w, with a lent buffer
-unfoldable pub surveyed : (w buffer : List ℕ) → Outcome
-surveyed w buffer = readAutomaton w (λ r. outcome (Survey.Refused r) buffer) (λ h p. afterCheck (bufferCheck buffer) (automatonOf h p) buffer)
+unfoldable pub surveyed : (w buffer : List ℕ) → Answered
+surveyed w buffer = readAutomaton w (λ r. answered (Survey.Refused r) buffer) (λ h p. afterCheck (bufferCheck buffer) (automatonOf h p) buffer)

@@ -17,7 +17,7 @@ ghost use Rattle.algorithms.specs.Automaton.{Automaton};
 ghost use Rattle.algorithms.specs.Saturate.{saturationOf};
 ghost use Rattle.overloops.specs.Tables.{Leaves};
 ghost use Rattle.candidates.specs.Tries.{Read};
-ghost use Rattle.emptiness.specs.Surveyed.{bufferCheck, outcome, told, written, surveyed};
+ghost use Rattle.emptiness.specs.Surveyed.{bufferCheck, answered, surveyOf, written, surveyed};
 ghost use Rattle.emptiness.specs.Checked.{checked};
 ghost use Rattle.emptiness.specs.Demand3.{Demand3, Demand3Quick};
 
@@ -35,7 +35,7 @@ fn buffer_check(plan: &[u8]) -> Check
 fn survey_read(table: &[u32], leaves: &[u32], header: Header, plan: &mut [u8]) -> Survey
     requires { ⌜ (length (now table) ≡ 9216) × (length (now leaves) ≡ 1536) × (header .states ≤ 24) × (header .symbols ≤ 32) × (195 ≤ length (now plan)) ⌝ }
     ensures { λ r. ⌜ ((A : Automaton) → Read A header (now (table .entry)) → Leaves A (now (leaves .entry))
-        → (r ≡ told (saturationOf A)) × (now (plan .exit) ≡ written (saturationOf A) (now (plan .entry)))) ⌝ }
+        → (r ≡ surveyOf (saturationOf A)) × (now (plan .exit) ≡ written (saturationOf A) (now (plan .entry)))) ⌝ }
 {
     let mut kept = [0u32; 3264];
     match saturate(table, leaves, header, &mut kept) {
@@ -55,8 +55,8 @@ fn survey_read(table: &[u32], leaves: &[u32], header: Header, plan: &mut [u8]) -
 
 // The survey of an automaton's file: where a tree is found, a plan that builds one goes to the front of the buffer.
 pub fn survey(file: &[u8], plan: &mut [u8]) -> Survey
-    ensures equals { λ r. ⌜ outcome r (now (plan .exit)) ≡ surveyed (now (file .entry)) (now (plan .entry)) ⌝ }
-    ensures right { λ r. ⌜ Demand3 (now (file .entry)) (now (plan .entry)) (outcome r (now (plan .exit))) ⌝ }
+    ensures equals { λ r. ⌜ answered r (now (plan .exit)) ≡ surveyed (now (file .entry)) (now (plan .entry)) ⌝ }
+    ensures right { λ r. ⌜ Demand3 (now (file .entry)) (now (plan .entry)) (answered r (now (plan .exit))) ⌝ }
 {
     let mut table = [0u32; 9216];
     let mut leaves = [0u32; 1536];

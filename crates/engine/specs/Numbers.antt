@@ -1,4 +1,6 @@
 -- Answers as numbers, for programs in other languages: of each the number that is answered, and the three numbers told with it.
+-- Interface: `refusalTold`, `answerNumber`, `answerTold`, `surveyNumber`, `surveyTold`, `quickNumber`, `quickTold`, `singleNumber`, `singleTold`,
+-- `outcomeNumbered`, `tallyOf`, `tallyNumbers`, `checkNumber`, `checkTold`, `judgedTally`.
 use Prim.Native.Nat.{ℕ, zero, suc}
 use mathlib.Core.List.{List, [], _∷_}
 use lib.ListN.{getD}

@@ -10,7 +10,7 @@ use transitions::single::Singleness;
 ghost use mathlib.Core.Path.{_≡_};
 ghost use Rattle.membership.specs.Judged.{judged};
 ghost use Rattle.membership.specs.Demand2.{Demand2};
-ghost use Rattle.emptiness.specs.Surveyed.{outcome, surveyed};
+ghost use Rattle.emptiness.specs.Surveyed.{answered, surveyed};
 ghost use Rattle.emptiness.specs.Checked.{checked};
 ghost use Rattle.emptiness.specs.Demand3.{Demand3, Demand3Quick};
 ghost use Rattle.transitions.specs.Single.{singleOf};
@@ -29,8 +29,8 @@ pub fn judge(automaton: &[u8], tree: &[u8]) -> Answer
 
 // Looks for a tree that an automaton's file accepts: where one is found, a plan that builds it goes to the front of the buffer.
 pub fn survey(file: &[u8], plan: &mut [u8]) -> emptiness::Survey
-    ensures equals { λ r. ⌜ outcome r (now (plan .exit)) ≡ surveyed (now (file .entry)) (now (plan .entry)) ⌝ }
-    ensures right { λ r. ⌜ Demand3 (now (file .entry)) (now (plan .entry)) (outcome r (now (plan .exit))) ⌝ }
+    ensures equals { λ r. ⌜ answered r (now (plan .exit)) ≡ surveyed (now (file .entry)) (now (plan .entry)) ⌝ }
+    ensures right { λ r. ⌜ Demand3 (now (file .entry)) (now (plan .entry)) (answered r (now (plan .exit))) ⌝ }
 {
     emptiness::file::survey(file, plan)
 }

@@ -12,7 +12,7 @@ use transitions::single::Singleness;
 ghost use mathlib.Core.Path.{_≡_};
 ghost use Rattle.membership.specs.Judged.{judged};
 ghost use Rattle.membership.specs.Demand2.{Demand2};
-ghost use Rattle.emptiness.specs.Surveyed.{outcome, surveyed};
+ghost use Rattle.emptiness.specs.Surveyed.{answered, surveyed};
 ghost use Rattle.emptiness.specs.Checked.{checked};
 ghost use Rattle.emptiness.specs.Demand3.{Demand3, Demand3Quick};
 ghost use Rattle.transitions.specs.Single.{singleOf};
@@ -150,7 +150,7 @@ pub extern "C" fn engine_survey(file: &[u8], plan: &mut [u8], told: &mut [usize;
         × (now (told .exit) ≡ surveyTold (surveyed (now (file .entry)) (now (plan .entry)) .answer))
         × (now (plan .exit) ≡ surveyed (now (file .entry)) (now (plan .entry)) .buffer) ⌝ }
     ensures right { λ r. ⌜ ((a : Survey) × (r ≡ surveyNumber a) × (now (told .exit) ≡ surveyTold a)
-        × Demand3 (now (file .entry)) (now (plan .entry)) (outcome a (now (plan .exit)))) ⌝ }
+        × Demand3 (now (file .entry)) (now (plan .entry)) (answered a (now (plan .exit)))) ⌝ }
 {
     put_survey(crate::survey(file, plan), told)
 }

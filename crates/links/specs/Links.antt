@@ -1,4 +1,5 @@
 -- The links of a tree's nodes, in preorder: what `link` writes. `Linked` says what they are in the model.
+-- Interface: `parentsFrom`, `rightsFrom`, `parentsOf`, `rightsOf`, `placeIn`.
 use mathlib.Core.Bool.{Bool, true, false}
 use mathlib.Core.List.{List, [], _∷_, _++_}
 use Prim.Native.Nat.{ℕ, _+_}

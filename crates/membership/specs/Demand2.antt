@@ -1,4 +1,5 @@
 -- Demand 2, of an answer to an automaton's file and a tree's file. Definitions only: runs, and nothing of tables.
+-- Interface: `Demand2`.
 use mathlib.Core.Path.{_≡_}
 use mathlib.Core.Logic.{_↔_}
 use mathlib.Core.List.{List}

@@ -1,5 +1,6 @@
 -- What judging answers of an automaton's file and a tree's file: the first refusal, the automaton's file first, else whether the automaton
 -- accepts the tree.
+-- Interface: `signatureOf`, `acceptedIf`, `judgedBy`, `judged`.
 use mathlib.Core.Bool.{Bool, true, false}
 use mathlib.Core.List.{List}
 use Prim.Native.Nat.{ℕ}

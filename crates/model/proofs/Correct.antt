@@ -12,7 +12,7 @@ use lib.Dec.{T, ltb, eqb, ltb→lt, nltb→le, eqb→eq, eqb-refl}
 use Rattle.model.specs.Lists.{_∈_}
 use Rattle.model.specs.Trees.{Tree, leaf, node, height}
 use Rattle.model.specs.Counting.{Alphabet, Language, Over, Counts, FoundAt, OpenAt, EmptyAt}
-use Rattle.model.specs.Saturation.{WitnessRow, Algebra, Candidate, Verdict, Found, Open, Empty, Unended, Outcome, done, onward, candidates}
+use Rattle.model.specs.Saturation.{WitnessRow, Algebra, Candidate, Verdict, Found, Open, Empty, Ending, done, onward, candidates}
 use Rattle.model.specs.Saturation.{firstAccepted, absorb, rowsOf, settle, conclude, round, after, rounds, saturation}
 use Rattle.model.specs.Demand.{Told, WitnessFor, Correct}
 use Rattle.model.proofs.Recognition.{Recognizes}
@@ -164,10 +164,9 @@ module _ (S : Alphabet) (L : Language) (M : Algebra) (W : Recognizes S L M) wher
     Right (Found h p) = FoundAt S L limit h × WitnessFor S L h p × (h ≤ limit)
     Right (Open h) = OpenAt S L limit h × (h ≤ limit)
     Right (Empty h) = EmptyAt S L limit h × (h ≤ limit)
-    Right Unended = ⊥
 
     -- How round h has to end.
-    abbrev Ended : ℕ → Outcome M → Type 0
+    abbrev Ended : ℕ → Ending M → Type 0
     Ended h (done v) = Right v
     Ended h (onward next) = (next ≡ kept (suc h)) × WentBy h
 
@@ -208,11 +207,11 @@ module _ (S : Alphabet) (L : Language) (M : Algebra) (W : Recognizes S L M) wher
 
     rounds-right : (fuel h : ℕ) → fuel + h ≡ suc limit → Before h → Right (rounds M S limit fuel h (kept h))
     unfolding rounds after
-    rounds-right zero h e b = omega (arith, height-fits h b)
+    rounds-right zero h e b = absurd (omega (arith, height-fits h b))
     rounds-right (suc fuel) h e b =
         go (round M S limit h (kept h)) (round-ended h b) (λ w. rounds-right fuel (suc h) (omega arith) (before-next h b w))
       where
-        go : (o : Outcome M) → Ended h o → (WentBy h → Right (rounds M S limit fuel (suc h) (kept (suc h))))
+        go : (o : Ending M) → Ended h o → (WentBy h → Right (rounds M S limit fuel (suc h) (kept (suc h))))
             → Right (after M o (λ next. rounds M S limit fuel (suc h) next))
         go (done v) r later = r
         go (onward next) r later = rw (r .0) (later (r .1))
@@ -226,25 +225,21 @@ module _ (S : Alphabet) (L : Language) (M : Algebra) (W : Recognizes S L M) wher
     found-told (Found k p) r h f = (p, rw (found-unique S L M W limit f (r .0)))
     found-told (Open k) r h f = absurd (found-not-open S L M W limit f (r .0))
     found-told (Empty k) r h f = absurd (found-not-empty S L M W limit f (r .0))
-    found-told Unended r h f = absurd r
 
     open-told : (v : Verdict) → Right v → (h : ℕ) → OpenAt S L limit h → v ≡ Open h
     open-told (Found k p) r h o = absurd (found-not-open S L M W limit (r .0) o)
     open-told (Open k) r h o = rw (open-unique S L M W limit o (r .0))
     open-told (Empty k) r h o = absurd (open-not-empty S L M W limit o (r .0))
-    open-told Unended r h o = absurd r
 
     empty-told : (v : Verdict) → Right v → (h : ℕ) → EmptyAt S L limit h → v ≡ Empty h
     empty-told (Found k p) r h e = absurd (found-not-empty S L M W limit (r .0) e)
     empty-told (Open k) r h e = absurd (open-not-empty S L M W limit (r .0) e)
     empty-told (Empty k) r h e = rw (empty-unique S L M W limit e (r .0))
-    empty-told Unended r h e = absurd r
 
     height-told : (v : Verdict) → Right v → Told limit v
     height-told (Found k p) r = r .2
     height-told (Open k) r = r .1
     height-told (Empty k) r = r .1
-    height-told Unended r = r
 
     right-correct : (v : Verdict) → Right v → Correct S L limit v
     right-correct v r =

@@ -11,7 +11,7 @@ use lib.Dec.{T, ltb, ltb→lt}
 use Rattle.model.specs.Lists.{_∈_, countFrom}
 use Rattle.model.proofs.ListLaws.{nth-of-lt, nth-getD, of-countFrom}
 use Rattle.model.specs.Counting.{Alphabet}
-use Rattle.model.specs.Saturation.{Algebra, Candidate, Outcome, done, onward, leafCandidate, classAt, nodeCandidate}
+use Rattle.model.specs.Saturation.{Algebra, Candidate, Ending, done, onward, leafCandidate, classAt, nodeCandidate}
 use Rattle.model.specs.Saturation.{nodeCandidates, candidates, firstIf, firstAccepted, known, keepIfNew, absorb, settle, conclude, round, after}
 use Rattle.model.specs.Saturation.{rounds, saturation}
 use Rattle.model.proofs.Round.{classes, mem-nodeCandidates, first-none, mem-known, absorb-covers}
@@ -183,7 +183,7 @@ module _ (M : Algebra) (sound : (x y : M .Class) → T (M .same x y) → x ≡ y
     rounds-same limit (suc fuel) h old kept s =
         rw (round-same limit h old kept s) (go (round M S limit h kept) refl (rounds-same limit fuel (suc h) (length kept)))
       where
-        go : (o : Outcome M) → round M S limit h kept ≡ o →
+        go : (o : Ending M) → round M S limit h kept ≡ o →
             ((next : List (Candidate M)) → Stale (suc h) (length kept) next →
             freshRounds M S limit fuel (suc h) (length kept) next ≡ rounds M S limit fuel (suc h) next) →
             after M o (λ next. freshRounds M S limit fuel (suc h) (length kept) next) ≡ after M o (λ next. rounds M S limit fuel (suc h) next)

@@ -1,5 +1,6 @@
 -- A saturation that tries, in each round, only the candidates over some row of the last round: all others were tried before, were not
 -- accepted and are not new. It tells the same: `fresh-saturation` of FreshRows.
+-- Interface: `rights`, `freshCandidates`, `freshSaturation`.
 use Prim.Native.Nat.{ℕ, zero, suc, _-_}
 use mathlib.Core.Bool.{Bool, true, false}
 use mathlib.Core.List.{List, [], map, flatMap}
@@ -7,7 +8,7 @@ use lib.ListN.{length}
 use lib.Dec.{ltb}
 use Rattle.model.specs.Lists.{countFrom}
 use Rattle.model.specs.Counting.{Alphabet}
-use Rattle.model.specs.Saturation.{Algebra, Candidate, Verdict, Unended, Outcome, leafCandidate, nodeCandidate}
+use Rattle.model.specs.Saturation.{Algebra, Candidate, Verdict, Open, Ending, leafCandidate, nodeCandidate}
 use Rattle.model.specs.Saturation.{candidates, firstAccepted, absorb, conclude, round, after}
 
 -- ---- the rounds
@@ -29,13 +30,13 @@ module _ (M : Algebra) where
   freshCandidates S (suc h) old kept = freshNodes (S .branches) old kept
 
   -- As `round`, `rounds` and `saturation`, over these candidates.
-  unfoldable pub freshRound : Alphabet → (limit h old : ℕ) → List (Candidate M) → Outcome M
+  unfoldable pub freshRound : Alphabet → (limit h old : ℕ) → List (Candidate M) → Ending M
   freshRound S limit h old kept =
       let cs = freshCandidates S h old kept in
       conclude M limit h kept (firstAccepted M cs) (absorb M kept cs)
 
   unfoldable pub freshRounds : Alphabet → (limit fuel h old : ℕ) → List (Candidate M) → Verdict
-  freshRounds S limit zero h old kept = Unended
+  freshRounds S limit zero h old kept = Open h
   freshRounds S limit (suc fuel) h old kept =
       after M (freshRound S limit h old kept) (λ next. freshRounds S limit fuel (suc h) (length kept) next)
 

@@ -1,4 +1,5 @@
 -- What preparing an automaton leaves in the lent tables, and what judging many trees asks of them.
+-- Interface: `Prepared`, `PreparedAfter`.
 use mathlib.Core.Path.{_≡_}
 use mathlib.Core.List.{List}
 use Prim.Native.Nat.{ℕ}

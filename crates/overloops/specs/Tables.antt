@@ -1,4 +1,5 @@
 -- What lent tables hold of an automaton: the compiled transitions, and the overloops of the leaves, 24 rows for each symbol and side.
+-- Interface: `Of`, `Tabled`, `sideNumber`, `leafCell`, `Leaves`, `PutFirst`, `Put`.
 use Prim.Native.Nat.{ℕ, _+_, _*_, _<_, _≤_}
 use mathlib.Core.Path.{_≡_}
 use mathlib.Core.Logic.{_⊎_}

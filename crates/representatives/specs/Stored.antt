@@ -1,4 +1,5 @@
 -- What a lent table of words holds of the rows kept: 51 words a row, the first 64 rows.
+-- Interface: `originOf`, `originIn`, `originsIn`, `classIn`, `StoredAt`, `Stored`, `KnownIn`, `Written`.
 use mathlib.Core.Path.{_≡_}
 use mathlib.Core.Logic.{_⊎_}
 use mathlib.Core.Bool.{Bool, true, false}

@@ -18,7 +18,7 @@ use Rattle.algorithms.specs.Automaton.{Automaton, alphabetOf}
 use Rattle.algorithms.specs.Saturate.{algebraOf, saturationOf}
 use Rattle.algorithms.proofs.Theorems.{fresh-same}
 use Rattle.representatives.specs.Stored.{originOf, originIn, originsIn, Count}
-use Rattle.candidates.specs.Tries.{Held, Holds, Tries, accepted, onward}
+use Rattle.candidates.specs.Tries.{Held, Keeps, Tries, accepted, onward}
 use Rattle.representatives.specs.declared.Origin.{Origin}
 use Rattle.candidates.specs.declared.Tried.{Tried}
 use Rattle.candidates.proofs.Trying.{no-rows}
@@ -85,10 +85,10 @@ module _ (A : Automaton) where
         rw (counted t .0, le-ltb 64 (length (absorb M base (triedIn h old base))) (omega (arith, f)), ne-eqb (length (absorb M base (triedIn h old base))) (length base) (λ e. omega (arith, f))) refl
 
     pub next-rows : {m : ℕ} → m ≤ 64 → Tries A base base (triedIn h old base) rows (Tried.Kept m)
-        → Holds A (absorb M base (triedIn h old base)) (absorb M base (triedIn h old base)) m rows × (length (absorb M base (triedIn h old base)) ≡ m)
+        → Keeps A (absorb M base (triedIn h old base)) (absorb M base (triedIn h old base)) m rows × (length (absorb M base (triedIn h old base)) ≡ m)
     next-rows l t = (by t, sym (few-rows l t))
       where
-        by : {m : ℕ} → Tries A base base (triedIn h old base) rows (Tried.Kept m) → Holds A (absorb M base (triedIn h old base)) (absorb M base (triedIn h old base)) m rows
+        by : {m : ℕ} → Tries A base base (triedIn h old base) rows (Tried.Kept m) → Keeps A (absorb M base (triedIn h old base)) (absorb M base (triedIn h old base)) m rows
         by (onward e k) = record { stored = k .stored; extends = λ i c p. p }
 
   -- ---- from round to round
@@ -96,7 +96,7 @@ module _ (A : Automaton) where
   -- the table as a round begins, and what the rounds from here on say
   pub record Begins (rows : List ℕ) (old n height : ℕ) : Type 0 where
     pub base : List (Candidate M)
-    pub holds : Holds A base base n rows
+    pub holds : Keeps A base base n rows
     pub count : length base ≡ n
     pub first : height ≡ 0 → base ≡ []
     pub rest : saturationOf A ≡ freshRounds M (alphabetOf A) 64 (65 - height) height old base
@@ -106,7 +106,7 @@ module _ (A : Automaton) where
   begins rows = record { base = []; holds = no-rows A; count = refl; first = λ e. refl; rest = sym (fresh-same A) }
 
   module _ (rows : List ℕ) (old n height : ℕ) (b : Begins rows old n height) (soon : height < 65) (few : n ≤ 64) (rows′ : List ℕ) (r : Tried)
-      (t : (base : List (Candidate M)) → Holds A base base n rows → length base ≡ n → (height ≡ 0 → base ≡ []) → Tries A base base (triedIn height old base) rows′ r) where
+      (t : (base : List (Candidate M)) → Keeps A base base n rows → length base ≡ n → (height ≡ 0 → base ≡ []) → Tries A base base (triedIn height old base) rows′ r) where
     told : {s : Tried} → r ≡ s → Tries A (b .base) (b .base) (triedIn height old (b .base)) rows′ s
     told e = rw e at (t (b .base) (b .holds) (b .count) (b .first))
 

@@ -1,4 +1,5 @@
 -- The tally after one more outcome, and the percent of accepted trees (document 01, Tally and report; line 14 of the table).
+-- Interface: `countedUp`, `percentOf`.
 use Prim.Native.Nat.{ℕ, _+_, _*_, _/_}
 use mathlib.Core.Bool.{Bool, true, false}
 use lib.Dec.{eqb, leb}

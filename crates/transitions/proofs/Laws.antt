@@ -22,7 +22,7 @@ use Rattle.automaton.specs.declared.Rule.{Rule}
 use Rattle.automaton.specs.declared.Scope.{Scope}
 use Rattle.automaton.specs.declared.rules.RuleBytes.{RuleBytes}
 use Rattle.transitions.specs.Transitions.{placeNumber, moveNumber, fits, withIf, addedBy, nextStates}
-use Rattle.transitions.specs.Compiled.{cellOf, RuleFits, Stepped, Added, Holds}
+use Rattle.transitions.specs.Compiled.{cellOf, RuleFits, Stepped, Added, Tabulates}
 use Rattle.transitions.specs.Single.{meet, meetsOne, singleFrom}
 
 pub place-small : (τ : Place) → placeNumber τ < 3
@@ -117,7 +117,7 @@ unknown-adds t = record { size = refl; cells = λ σ τ μ p hσ hp. refl }
 
 -- ---- the rules one by one
 
-pub none-held : (h : Header) (content : List ℕ) (n : ℕ) → n ≡ 9216 → Holds (nextStates h content 0) (replicate n 0)
+pub none-held : (h : Header) (content : List ℕ) (n : ℕ) → n ≡ 9216 → Tabulates (nextStates h content 0) (replicate n 0)
 unfolding nextStates
 none-held h content n e =
     record {
@@ -126,7 +126,7 @@ none-held h content n e =
     }
 
 pub one-held : (h : Header) (content : List ℕ) (n : ℕ) (t t′ : List ℕ)
-    → Holds (nextStates h content n) t → Added (ruleAt h content n) t t′ → Holds (nextStates h content (n + 1)) t′
+    → Tabulates (nextStates h content n) t → Added (ruleAt h content n) t t′ → Tabulates (nextStates h content (n + 1)) t′
 unfolding nextStates
 one-held h content n t t′ old new =
     record {

@@ -1,4 +1,5 @@
 -- The compiled transitions: a set of next states for each of 32 symbols, 3 places, 4 moves and 24 states.
+-- Interface: `cellOf`, `RuleFits`, `Stepped`, `Added`, `Compiled`, `Loaded`.
 use Prim.Native.Nat.{ℕ, _+_, _*_, _<_}
 use mathlib.Core.Path.{_≡_}
 use mathlib.Core.List.{List}
@@ -37,13 +38,13 @@ abbrev pub Added : RuleBytes → List ℕ → List ℕ → Type 0
 Added bytes = Cells (addedBy bytes)
 
 -- each of the 9,216 cells is the set of next states
-pub record Holds (next : ℕ → Place → Move → ℕ → ℕ) (t : List ℕ) : Type 0 where
+pub record Tabulates (next : ℕ → Place → Move → ℕ → ℕ) (t : List ℕ) : Type 0 where
   pub size : length t ≡ 9216
   pub cells : (σ : ℕ) (τ : Place) (μ : Move) (p : ℕ) → σ < 32 → p < 24 → getD t (cellOf σ τ μ p) 0 ≡ next σ τ μ p
 
 -- the table of an automaton
 abbrev pub Compiled : Automaton → List ℕ → Type 0
-Compiled A = Holds (A .next)
+Compiled A = Tabulates (A .next)
 
 -- what loading a file leaves in the lent table: the automaton's, or, of a refused file, what stood there
 abbrev pub Loaded : Parsed → (file before after : List ℕ) → Type 0

@@ -1,5 +1,6 @@
 -- Single automata (document 01, tally and report: "A walker is single if no two rule records meet at one symbol, state and place; place 3
 -- meets each").
+-- Interface: `shared`, `meet`, `meetsOne`, `single`, `singleIf`, `singleOf`.
 use Prim.Native.Nat.{ℕ, zero, suc, _+_, _*_}
 use mathlib.Core.Bool.{Bool, true, false, not, _&&_, _||_}
 use mathlib.Core.List.{List}

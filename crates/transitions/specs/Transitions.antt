@@ -1,5 +1,6 @@
 -- The automaton of a file: its counts and sets, and the transitions that its rules allow (document 01, the walker file; steps, runs, crossings:
 -- "A rule applies at a node of its symbol, in its state, at its place").
+-- Interface: `placeNumber`, `moveNumber`, `automatonOf`.
 use Prim.Native.Nat.{ℕ, zero, suc, _^_, _<_}
 use mathlib.Core.Path.{_≡_}
 use mathlib.Core.Bool.{Bool, true, false, _&&_}

@@ -9,7 +9,7 @@ use Rattle.model.specs.Lists.{countFrom}
 use Rattle.model.specs.Saturation.{Candidate}
 use Rattle.algorithms.specs.Automaton.{Automaton}
 use Rattle.algorithms.specs.Saturate.{algebraOf}
-use Rattle.candidates.specs.Tries.{Read, overLefts, Holds, Tries}
+use Rattle.candidates.specs.Tries.{Read, overLefts, Keeps, Tries}
 use Rattle.candidates.specs.declared.Tried.{Tried}
 use Rattle.classes.proofs.Symbols.{count-snoc, count-split}
 use Rattle.candidates.proofs.Trying.{begun, turn, ended, few-kept}
@@ -19,14 +19,14 @@ use Rattle.candidates.proofs.try_lefts.Tie as tie
 abbrev Inv-loop : tie.InvT-loop
 Inv-loop table header symbol old to rows₀ kept n₀ left₀ rows n left =
     (length rows ≡ 3264) × (left ≤ to) × (n ≤ 65) × ((A : Automaton) → Read A header table → (base before : List (Candidate (algebraOf A)))
-    → Holds A base before kept rows₀ → length base ≡ to → Tries A base before (overLefts (algebraOf A) base old to (symbol .0) left) rows (Tried.Kept n))
+    → Keeps A base before kept rows₀ → length base ≡ to → Tries A base before (overLefts (algebraOf A) base old to (symbol .0) left) rows (Tried.Kept n))
 
 abbrev μ-loop : tie.MeasureT-loop
 μ-loop table header symbol old to rows₀ kept n₀ left₀ rows n left = to - left
 
 -- one turn
 turned : (c : tie.After-try-rights Inv-loop μ-loop) (A : Automaton) → Read A (c .before .before .before .before .before .before .before .args .header) (c .before .before .before .before .before .before .before .args .table .now) → (base before : List (Candidate (algebraOf A)))
-    → Holds A base before (c .before .before .before .before .before .before .before .args .kept) (c .before .before .before .before .before .before .before .args .rows .now) → length base ≡ c .before .before .before .before .before .before .before .args .to → {r : Tried} → c .try-rights .result ≡ r
+    → Keeps A base before (c .before .before .before .before .before .before .before .args .kept) (c .before .before .before .before .before .before .before .args .rows .now) → length base ≡ c .before .before .before .before .before .before .before .args .to → {r : Tried} → c .try-rights .result ≡ r
     → Tries A base before (overLefts (algebraOf A) base (c .before .before .before .before .before .before .before .args .old) (c .before .before .before .before .before .before .before .args .to) (c .before .before .before .before .before .before .before .args .symbol .0) (c .before .before .before .before .loop .left + 1)) (c .try-rights .last .1 .1 .1 .1 .1 .1 .0) r
 turned c A k base before h e =
     turn A (count-snoc _ _) (c .before .before .before .before .loop .inv .3 A k base before h e)

@@ -9,14 +9,14 @@ use Rattle.model.specs.Saturation.{Candidate, nodeCandidate}
 use Rattle.algorithms.specs.Automaton.{Automaton}
 use Rattle.algorithms.specs.Saturate.{Parts, algebraOf}
 use Rattle.classes.specs.Classes.{partsIn}
-use Rattle.candidates.specs.Tries.{Read, Holds}
+use Rattle.candidates.specs.Tries.{Read, Keeps}
 use Rattle.candidates.proofs.Trying.{one-accepted, one-full, one-kept, node-row-is, node-class-is, node-accepted-is}
 use Rattle.candidates.proofs.try_node.Statement.{statement}
 use Rattle.candidates.proofs.try_node.Tie as tie
 
 -- the test is the candidate's, the classes being those of the two rows
 accepted-is : (c : tie.After-node-accepted) (A : Automaton) → Read A (c .before .before .before .before .before .before .before .args .header) (c .before .before .before .before .before .before .before .args .table .now) → (base kept : List (Candidate (algebraOf A)))
-    → Holds A base kept (c .before .before .before .before .before .before .before .args .n) (c .before .before .before .before .before .before .before .args .rows .now) → c .before .before .before .before .before .before .before .args .left .0 < length base → c .before .before .before .before .before .before .before .args .right .0 < length base
+    → Keeps A base kept (c .before .before .before .before .before .before .before .args .n) (c .before .before .before .before .before .before .before .args .rows .now) → c .before .before .before .before .before .before .before .args .left .0 < length base → c .before .before .before .before .before .before .before .args .right .0 < length base
     → c .node-accepted .result ≡ nodeCandidate (algebraOf A) base (c .before .before .before .before .before .before .before .args .symbol .0) (c .before .before .before .before .before .before .before .args .left .0) (c .before .before .before .before .before .before .before .args .right .0) .accepted
 accepted-is c A k base kept h la lb =
     node-accepted-is A h _ _ _ la lb (search needs) (search needs) (c .before .before .before .class-at .ensures) (c .before .class-at2 .ensures)
@@ -24,7 +24,7 @@ accepted-is c A k base kept h la lb =
 
 -- and so is the class
 class-is : (c : tie.After-node-accepted) (A : Automaton) (base kept : List (Candidate (algebraOf A)))
-    → Holds A base kept (c .before .before .before .before .before .before .before .args .n) (c .before .before .before .before .before .before .before .args .rows .now) → c .before .before .before .before .before .before .before .args .left .0 < length base → c .before .before .before .before .before .before .before .args .right .0 < length base → (z : Parts)
+    → Keeps A base kept (c .before .before .before .before .before .before .before .args .n) (c .before .before .before .before .before .before .before .args .rows .now) → c .before .before .before .before .before .before .before .args .left .0 < length base → c .before .before .before .before .before .before .before .args .right .0 < length base → (z : Parts)
     → z ≡ algebraOf A .nodeClass (c .before .before .before .before .before .before .before .args .symbol .0) (partsIn (c .before .before .before .class-at .result)) (partsIn (c .before .class-at2 .result))
     → z ≡ nodeCandidate (algebraOf A) base (c .before .before .before .before .before .before .before .args .symbol .0) (c .before .before .before .before .before .before .before .args .left .0) (c .before .before .before .before .before .before .before .args .right .0) .class
 class-is c A base kept h la lb z e =

@@ -9,7 +9,7 @@ use Rattle.model.specs.Lists.{countFrom}
 use Rattle.model.specs.Saturation.{Candidate, nodeCandidate}
 use Rattle.algorithms.specs.Automaton.{Automaton}
 use Rattle.algorithms.specs.Saturate.{algebraOf}
-use Rattle.candidates.specs.Tries.{Read, Holds, Tries}
+use Rattle.candidates.specs.Tries.{Read, Keeps, Tries}
 use Rattle.candidates.specs.declared.Tried.{Tried}
 use Rattle.classes.proofs.Symbols.{range-none, range-snoc, range-split, map-flat}
 use Rattle.candidates.proofs.Trying.{begun, turn, ended, few-kept}
@@ -19,7 +19,7 @@ use Rattle.candidates.proofs.try_rights.Tie as tie
 abbrev Inv-loop : tie.InvT-loop
 Inv-loop table header symbol left from to rows₀ kept n₀ right₀ rows n right =
     (length rows ≡ 3264) × (from ≤ right) × (right ≤ to) × (n ≤ 65) × ((A : Automaton) → Read A header table → (base before : List (Candidate (algebraOf A)))
-    → Holds A base before kept rows₀ → length base ≡ to
+    → Keeps A base before kept rows₀ → length base ≡ to
     → Tries A base before (flatMap (λ b. nodeCandidate (algebraOf A) base (symbol .0) (left .0) b ∷ []) (countFrom from (right - from))) rows (Tried.Kept n))
 
 abbrev μ-loop : tie.MeasureT-loop
@@ -27,7 +27,7 @@ abbrev μ-loop : tie.MeasureT-loop
 
 -- one turn
 turned : (c : tie.After-try-node Inv-loop μ-loop) (A : Automaton) → Read A (c .before .before .before .before .before .before .args .header) (c .before .before .before .before .before .before .args .table .now) → (base before : List (Candidate (algebraOf A)))
-    → Holds A base before (c .before .before .before .before .before .before .args .kept) (c .before .before .before .before .before .before .args .rows .now) → length base ≡ c .before .before .before .before .before .before .args .to → {r : Tried} → c .try-node .result ≡ r
+    → Keeps A base before (c .before .before .before .before .before .before .args .kept) (c .before .before .before .before .before .before .args .rows .now) → length base ≡ c .before .before .before .before .before .before .args .to → {r : Tried} → c .try-node .result ≡ r
     → Tries A base before (flatMap (λ b. nodeCandidate (algebraOf A) base (c .before .before .before .before .before .before .args .symbol .0) (c .before .before .before .before .before .before .args .left .0) b ∷ []) (countFrom (c .before .before .before .before .before .before .args .from) (c .before .before .before .loop .right + 1 - c .before .before .before .before .before .before .args .from)))
     (c .try-node .last .1 .1 .1 .1 .1 .0) r
 turned c A k base before h e =

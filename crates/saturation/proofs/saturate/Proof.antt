@@ -10,7 +10,7 @@ use Rattle.model.specs.Fresh.{freshCandidates}
 use Rattle.algorithms.specs.Automaton.{Automaton, alphabetOf}
 use Rattle.algorithms.specs.Saturate.{algebraOf}
 use Rattle.overloops.specs.Tables.{Leaves}
-use Rattle.candidates.specs.Tries.{Read, Holds, Tries}
+use Rattle.candidates.specs.Tries.{Read, Keeps, Tries}
 use Rattle.saturation.proofs.Ending.{Begins, begins, ends-found, ends-open, ends-empty, goes-on}
 use Rattle.saturation.proofs.saturate.Statement.{statement}
 use Rattle.saturation.proofs.saturate.Tie as tie
@@ -24,7 +24,7 @@ abbrev μ-loop : tie.MeasureT-loop
 
 -- what the round tried, whatever the rows are
 tried : (c : tie.After-round Inv-loop μ-loop) (A : Automaton) → Read A (c .before .before .before .before .before .before .args .header) (c .before .before .before .before .before .before .args .table .now) → Leaves A (c .before .before .before .before .before .before .args .leaves .now)
-    → (base : List (Candidate (algebraOf A))) → Holds A base base (c .before .before .loop .n) (c .before .before .loop .rows) → length base ≡ c .before .before .loop .n → (c .before .before .loop .height ≡ 0 → base ≡ [])
+    → (base : List (Candidate (algebraOf A))) → Keeps A base base (c .before .before .loop .n) (c .before .before .loop .rows) → length base ≡ c .before .before .loop .n → (c .before .before .loop .height ≡ 0 → base ≡ [])
     → Tries A base base (freshCandidates (algebraOf A) (alphabetOf A) (c .before .before .loop .height) (c .before .before .loop .old) base) (c .round .last .1 .1 .1 .1 .1 .1 .0) (c .round .result)
 tried c A k t base h e f = c .round .ensures .1 A k t base h e f
 

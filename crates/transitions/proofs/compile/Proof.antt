@@ -4,13 +4,13 @@ use borrow.Author.Needs.{needs}
 use Prim.Native.Nat.{_-_, _≤_}
 use mathlib.Core.Path.{_≡_}
 use Rattle.transitions.specs.Transitions.{nextStates}
-use Rattle.transitions.specs.Compiled.{Holds}
+use Rattle.transitions.specs.Compiled.{Tabulates}
 use Rattle.transitions.proofs.Laws.{none-held, one-held}
 use Rattle.transitions.proofs.compile.Statement.{statement}
 use Rattle.transitions.proofs.compile.Tie as tie
 
 abbrev Inv-loop : tie.InvT-loop
-Inv-loop content header table₀ rules i₀ table i = (i ≤ rules) × Holds (nextStates header content i) table
+Inv-loop content header table₀ rules i₀ table i = (i ≤ rules) × Tabulates (nextStates header content i) table
 
 abbrev μ-loop : tie.MeasureT-loop
 μ-loop content header table₀ rules i₀ table i = rules - i

@@ -14,7 +14,7 @@ use Rattle.transitions.proofs.Meaning.{file-proper}
 use Rattle.overloops.specs.Prepared.{Prepared}
 use Rattle.overloops.proofs.Laws.{prepared-read}
 use Rattle.candidates.specs.Tries.{Read}
-use Rattle.emptiness.specs.Surveyed.{Outcome, outcome, bufferCheck, surveyed}
+use Rattle.emptiness.specs.Surveyed.{Answered, answered, bufferCheck, surveyed}
 use Rattle.emptiness.specs.Demand3.{Demand3}
 use Rattle.emptiness.proofs.Proved.{surveyed-right}
 use Rattle.emptiness.specs.declared.Survey.{Survey}
@@ -23,7 +23,7 @@ use Rattle.emptiness.proofs.file.survey.Statement.{statement}
 use Rattle.emptiness.proofs.file.survey.Tie as tie
 
 -- what is equal to the definition's answer and buffer meets demand 3
-both : (w before : List ℕ) (o : Outcome) → o ≡ surveyed w before → (o ≡ surveyed w before) × Demand3 w before o
+both : (w before : List ℕ) (o : Answered) → o ≡ surveyed w before → (o ≡ surveyed w before) × Demand3 w before o
 both w before o e = (e, rw e (surveyed-right w before))
 
 -- the tables are prepared
@@ -39,12 +39,12 @@ prepared-are h table leaves p =
       symbols = refl;
     }
 
-refused-is : (c : tie.After-known-told) → outcome (Survey.Refused (c .before .refusal .given .0 .0)) (c .before .before .before .before .before .before .before .before .args .plan .now)
+refused-is : (c : tie.After-known-told) → answered (Survey.Refused (c .before .refusal .given .0 .0)) (c .before .before .before .before .before .before .before .before .args .plan .now)
     ≡ surveyed (c .before .before .before .before .before .before .before .before .args .file .now) (c .before .before .before .before .before .before .before .before .args .plan .now)
 unfolding surveyed
 refused-is c = rw (sym (c .before .before .before .prepare .ensures .0) ∙ c .before .refusal .given .1)
 
-short-is : (c : tie.After-known-told3) → outcome (Survey.Refused (c .before .refusal2 .given .0 .0)) (c .before .before .before .before .before .before .before .before .before .before .before .before .before .args .plan .now)
+short-is : (c : tie.After-known-told3) → answered (Survey.Refused (c .before .refusal2 .given .0 .0)) (c .before .before .before .before .before .before .before .before .before .before .before .before .before .args .plan .now)
     ≡ surveyed (c .before .before .before .before .before .before .before .before .before .before .before .before .before .args .file .now) (c .before .before .before .before .before .before .before .before .before .before .before .before .before .args .plan .now)
 unfolding surveyed
 short-is c = rw (prepared (c .before .before .before .before .before) .read, sym (c .before .before .before .buffer-check .ensures) ∙ c .before .refusal2 .given .1)
@@ -53,13 +53,13 @@ short-is c = rw (prepared (c .before .before .before .before .before) .read, sym
 passed : (c : tie.After-enum-told) → bufferCheck (c .before .before .before .before .before .before .before .before .before .before .before .before .args .plan .now) ≡ Check.Passed
 passed c = sym (c .before .before .buffer-check .ensures) ∙ c .enum-told .given .1
 
-survey-is : (c : tie.After-survey-read) → outcome (c .survey-read .result) (c .survey-read .last .1 .1 .1 .0)
+survey-is : (c : tie.After-survey-read) → answered (c .survey-read .result) (c .survey-read .last .1 .1 .1 .0)
     ≡ surveyed (c .before .before .before .before .before .before .before .before .before .before .before .before .before .before .before .before .args .file .now) (c .before .before .before .before .before .before .before .before .before .before .before .before .before .before .before .before .args .plan .now)
 unfolding surveyed
 survey-is c =
     let p = prepared (c .before .before .before .before .before .before .before .before) in
     let r = c .survey-read .ensures _ (prepared-are _ _ _ p) (p .leaves-are) in
-    rw (p .read, passed (c .before .before .before .before)) (ap₂ outcome (r .0) (r .1))
+    rw (p .read, passed (c .before .before .before .before)) (ap₂ answered (r .0) (r .1))
 
 pub survey-spec : {M : Type 1} → statement M
 survey-spec =

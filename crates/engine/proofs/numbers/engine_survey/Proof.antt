@@ -2,7 +2,7 @@
 -- Assumes nothing.
 use borrow.Author.Needs.{needs}
 use mathlib.Core.Path.{ap, _∙_}
-use Rattle.emptiness.specs.Surveyed.{Outcome}
+use Rattle.emptiness.specs.Surveyed.{Answered}
 use Rattle.engine.specs.Numbers.{surveyNumber, surveyTold}
 use Rattle.engine.proofs.numbers.engine_survey.Statement.{statement}
 use Rattle.engine.proofs.numbers.engine_survey.Tie as tie
@@ -16,9 +16,9 @@ engine-survey-spec = tie.close (tie.spec
     let answer = c .before .before .before .before .survey in
     let e = answer .ensures .0 in (
       (
-        c .put-survey .ensures .0 ∙ ap (λ (o : Outcome). surveyNumber (o .answer)) e,
-        c .put-survey .ensures .1 ∙ ap (λ (o : Outcome). surveyTold (o .answer)) e,
-        ap (λ (o : Outcome). o .buffer) e,
+        c .put-survey .ensures .0 ∙ ap (λ (o : Answered). surveyNumber (o .answer)) e,
+        c .put-survey .ensures .1 ∙ ap (λ (o : Answered). surveyTold (o .answer)) e,
+        ap (λ (o : Answered). o .buffer) e,
       ),
       (answer .result, c .put-survey .ensures .0, c .put-survey .ensures .1, answer .ensures .1),
     )))
