@@ -42,7 +42,7 @@ use Rattle.membership.specs.Judged.{signatureOf, acceptedIf, judgedBy, judged}
 use Rattle.membership.specs.Demand2.{Judges}
 use Rattle.membership.proofs.Proved.{judged-right}
 use Rattle.membership.specs.declared.Answer.{Answer}
-use Rattle.emptiness.specs.Surveyed.{planBytes, surveyOf, written, bufferCheck, answered, surveyed}
+use Rattle.emptiness.specs.Surveyed.{planBytes, surveyOf, written, bufferCheck, answered, surveyedBy, surveyed}
 use Rattle.emptiness.specs.Checked.{clearOr, checked}
 use Rattle.emptiness.proofs.Proved.{surveyed-right, checked-right}
 use Rattle.emptiness.specs.declared.Survey.{Survey}
@@ -160,7 +160,7 @@ survey-read (Parsed.Read h) w answer plan quick e = (h, refl, (cc), (cc), (cc))
 
 survey-as : (w : List ℕ) (h : Header) → parsed w ≡ Parsed.Read h → (buffer : List ℕ) → 195 ≤ length buffer
     → surveyed w buffer ≡ planned (surveyOf (saturationOf (automatonOf h (content w)))) (planOf (saturationOf (automatonOf h (content w)))) buffer
-unfolding surveyed bufferCheck
+unfolding surveyed surveyedBy bufferCheck
 survey-as w h read buffer long =
     let v = saturationOf (automatonOf h (content w)) in
     rw (read, le-ltb (length buffer) 195 long) (ap (answered (surveyOf v)) (plan-written v buffer))

@@ -1,2 +1,3 @@
 pub mod Planning
 pub mod Proved
+pub mod Prepared

@@ -20,7 +20,7 @@ use Rattle.blocks.specs.Blocks.{content}
 use Rattle.refusal.proofs.Passed.{clash}
 use Rattle.transitions.specs.Transitions.{automatonOf}
 use Rattle.transitions.proofs.Meaning.{file-proper}
-use Rattle.emptiness.specs.Surveyed.{planBytes, surveyOf, written, bufferCheck, answered, surveyed}
+use Rattle.emptiness.specs.Surveyed.{planBytes, surveyOf, written, bufferCheck, answered, surveyedBy, surveyed}
 use Rattle.emptiness.specs.Checked.{clearOr, checked}
 use Rattle.emptiness.specs.Demand3.{Planned, AtMost64, Surveys, Demand3, Approximates, Demand3Quick}
 use Rattle.emptiness.specs.declared.Survey.{Survey}
@@ -115,7 +115,7 @@ module _ (A : Automaton) (P : Proper A) (before : List ℕ) where
       }
 
 pub surveyed-right : (w before : List ℕ) → Demand3 w before (surveyed w before)
-unfolding surveyed bufferCheck
+unfolding surveyed surveyedBy bufferCheck
 surveyed-right w before h read long =
     rw (read, le-ltb (length before) 195 long)
     (surveys (automatonOf h (content w)) (file-proper w h read) before)

@@ -4,6 +4,7 @@ use mathlib.Core.List.{List}
 use Prim.Native.Nat.{ℕ}
 use Rattle.algorithms.specs.Approximate.{clear?}
 use Rattle.automaton.specs.File.{readAutomaton}
+use Rattle.automaton.specs.declared.Header.{Header}
 use Rattle.transitions.specs.Transitions.{automatonOf}
 use Rattle.emptiness.specs.declared.Quick.{Quick}
 
@@ -12,6 +13,10 @@ abbrev pub clearOr : Bool → Quick
 clearOr true = Quick.Clear
 clearOr false = Quick.Unsure
 
+-- by the automaton of a header and the joined contents p
+abbrev pub checkedBy : Header → (p : List ℕ) → Quick
+checkedBy h p = clearOr (clear? (automatonOf h p))
+
 -- of an automaton's file w
 unfoldable pub checked : (w : List ℕ) → Quick
-checked w = readAutomaton w Quick.Refused (λ h p. clearOr (clear? (automatonOf h p)))
+checked w = readAutomaton w Quick.Refused (λ h p. checkedBy h p)

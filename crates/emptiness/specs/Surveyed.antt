@@ -1,5 +1,5 @@
 -- What the survey of an automaton's file answers, and what it leaves in the lent plan buffer (document 01, Survey; line 13 of the table).
--- Interface: `planBytes`, `surveyOf`, `written`, `bufferCheck`, `Answered`, `answered`, `surveyed`.
+-- Interface: `planBytes`, `surveyOf`, `written`, `bufferCheck`, `Answered`, `answered`, `surveyedBy`, `surveyed`.
 use mathlib.Core.List.{List, [], _∷_, _++_}
 use Prim.Native.Nat.{ℕ, _*_}
 use lib.ListN.{length, drop}
@@ -11,6 +11,7 @@ use Rattle.refusal.specs.Checks.{refuseIf}
 use Rattle.refusal.specs.declared.Check.{Check}
 use Rattle.refusal.specs.declared.Fault.{Fault}
 use Rattle.automaton.specs.File.{readAutomaton}
+use Rattle.automaton.specs.declared.Header.{Header}
 use Rattle.transitions.specs.Transitions.{automatonOf}
 use Rattle.emptiness.specs.declared.Survey.{Survey}
 
@@ -47,6 +48,10 @@ abbrev pub afterCheck : Check → Automaton → (buffer : List ℕ) → Answered
 afterCheck (Check.Refused r) A buffer = answered (Survey.Refused r) buffer
 afterCheck Check.Passed A buffer = answered (surveyOf (saturationOf A)) (written (saturationOf A) buffer)
 
--- the survey of an automaton's file w, with a lent buffer
+-- the survey by the automaton of a header and the joined contents p, with a lent buffer
+unfoldable pub surveyedBy : Header → (p buffer : List ℕ) → Answered
+surveyedBy h p buffer = afterCheck (bufferCheck buffer) (automatonOf h p) buffer
+
+-- of an automaton's file w
 unfoldable pub surveyed : (w buffer : List ℕ) → Answered
-surveyed w buffer = readAutomaton w (λ r. answered (Survey.Refused r) buffer) (λ h p. afterCheck (bufferCheck buffer) (automatonOf h p) buffer)
+surveyed w buffer = readAutomaton w (λ r. answered (Survey.Refused r) buffer) (λ h p. surveyedBy h p buffer)

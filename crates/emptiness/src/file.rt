@@ -15,10 +15,12 @@ ghost use Prim.Native.Nat.{_≤_};
 ghost use lib.ListN.{length};
 ghost use Rattle.algorithms.specs.Automaton.{Automaton};
 ghost use Rattle.algorithms.specs.Saturate.{saturationOf};
+ghost use Rattle.blocks.specs.Blocks.{content};
 ghost use Rattle.overloops.specs.Tables.{Leaves};
+ghost use Rattle.overloops.specs.Prepared.{Prepared};
 ghost use Rattle.candidates.specs.Tries.{Read};
-ghost use Rattle.emptiness.specs.Surveyed.{bufferCheck, answered, surveyOf, written, surveyed};
-ghost use Rattle.emptiness.specs.Checked.{checked};
+ghost use Rattle.emptiness.specs.Surveyed.{bufferCheck, answered, surveyOf, written, surveyedBy, surveyed};
+ghost use Rattle.emptiness.specs.Checked.{checkedBy, checked};
 ghost use Rattle.emptiness.specs.Demand3.{Demand3, Demand3Quick};
 
 // Line 13.
@@ -53,7 +55,19 @@ fn survey_read(table: &[u32], leaves: &[u32], header: Header, plan: &mut [u8]) -
     }
 }
 
-// The survey of an automaton's file: where a tree is found, a plan that builds one goes to the front of the buffer.
+// The survey by an automaton that was prepared: where a tree is found, a plan that builds one goes to the front of the buffer.
+pub fn survey_prepared(header: Header, table: &[u32], leaves: &[u32], plan: &mut [u8]) -> Survey
+    requires { ⌜ Prepared header (now table) (now leaves) ⌝ }
+    ensures { λ r. ⌜ ((p : Prepared header (now (table .entry)) (now (leaves .entry)))
+        → answered r (now (plan .exit)) ≡ surveyedBy header (content (p .file)) (now (plan .entry))) ⌝ }
+{
+    if let Check::Refused(refusal) = buffer_check(plan) {
+        return Survey::Refused(refusal);
+    }
+    survey_read(table, leaves, header, plan)
+}
+
+// The survey of an automaton's file.
 pub fn survey(file: &[u8], plan: &mut [u8]) -> Survey
     ensures equals { λ r. ⌜ answered r (now (plan .exit)) ≡ surveyed (now (file .entry)) (now (plan .entry)) ⌝ }
     ensures right { λ r. ⌜ Demand3 (now (file .entry)) (now (plan .entry)) (answered r (now (plan .exit))) ⌝ }
@@ -62,12 +76,19 @@ pub fn survey(file: &[u8], plan: &mut [u8]) -> Survey
     let mut leaves = [0u32; 1536];
     match overloops::prepare(file, &mut table, &mut leaves) {
         Parsed::Refused(refusal) => Survey::Refused(refusal),
-        Parsed::Read(header) => {
-            if let Check::Refused(refusal) = buffer_check(plan) {
-                return Survey::Refused(refusal);
-            }
-            survey_read(&table, &leaves, header, plan)
-        }
+        Parsed::Read(header) => survey_prepared(header, &table, &leaves, plan),
+    }
+}
+
+// The quick check by an automaton that was prepared.
+pub fn quick_prepared(header: Header, table: &[u32], leaves: &[u32]) -> Quick
+    requires { ⌜ Prepared header (now table) (now leaves) ⌝ }
+    ensures { λ r. ⌜ ((p : Prepared header (now (table .entry)) (now (leaves .entry))) → r ≡ checkedBy header (content (p .file))) ⌝ }
+{
+    if is_clear(table, leaves, header) {
+        Quick::Clear
+    } else {
+        Quick::Unsure
     }
 }
 
@@ -80,12 +101,6 @@ pub fn quick(file: &[u8]) -> Quick
     let mut leaves = [0u32; 1536];
     match overloops::prepare(file, &mut table, &mut leaves) {
         Parsed::Refused(refusal) => Quick::Refused(refusal),
-        Parsed::Read(header) => {
-            if is_clear(&table, &leaves, header) {
-                Quick::Clear
-            } else {
-                Quick::Unsure
-            }
-        }
+        Parsed::Read(header) => quick_prepared(header, &table, &leaves),
     }
 }

@@ -24,7 +24,7 @@ use Rattle.automaton.specs.declared.file.Parsed.{Parsed}
 use Rattle.transitions.specs.Transitions.{automatonOf}
 use Rattle.transitions.specs.Compiled.{cellOf, Compiled, Loaded}
 use Rattle.transitions.proofs.Laws.{place-small, move-small}
-use Rattle.overloops.specs.Prepared.{Prepared, PreparedAfter}
+use Rattle.overloops.specs.Prepared.{PreparedOf, Prepared, PreparedAfter}
 use Rattle.overloops.specs.Tables.{sideNumber, leafCell, LeavesBelow, Leaves, PutFirst, Put}
 
 -- ---- 24 rows from a place on
@@ -144,3 +144,12 @@ abbrev pub prepared-read : (r : Parsed) (h : Header) (s t l t′ l′ : List ℕ
 prepared-read r h s t l t′ l′ e f a =
     let b : PreparedAfter (Parsed.Read h) s t l t′ l′ = rw e at a in
     record { file = s; read = sym f ∙ e; compiled = b .0; leaves-are = b .1 }
+
+-- the same of the file itself; and the tables of a file are those of one
+abbrev pub prepared-of : (r : Parsed) (h : Header) (s t l t′ l′ : List ℕ) → r ≡ Parsed.Read h → r ≡ parsed s → PreparedAfter r s t l t′ l′ → PreparedOf s h t′ l′
+prepared-of r h s t l t′ l′ e f a =
+    let b : PreparedAfter (Parsed.Read h) s t l t′ l′ = rw e at a in
+    record { read = sym f ∙ e; compiled = b .0; leaves-are = b .1 }
+
+abbrev pub prepared-by : (s : List ℕ) (h : Header) (t l : List ℕ) → PreparedOf s h t l → Prepared h t l
+prepared-by s h t l p = record { file = s; read = p .read; compiled = p .compiled; leaves-are = p .leaves-are }

@@ -11,6 +11,12 @@ use Rattle.transitions.specs.Transitions.{automatonOf}
 use Rattle.transitions.specs.Compiled.{Compiled}
 use Rattle.overloops.specs.Tables.{Leaves}
 
+-- the tables are those of the file s, which reads with this header
+pub record PreparedOf (s : List ℕ) (h : Header) (table leaves : List ℕ) : Type 0 where
+  pub read : parsed s ≡ Parsed.Read h
+  pub compiled : Compiled (automatonOf h (content s)) table
+  pub leaves-are : Leaves (automatonOf h (content s)) leaves
+
 -- the tables are those of a file that reads with this header
 pub record Prepared (h : Header) (table leaves : List ℕ) : Type 0 where
   pub file : List ℕ

@@ -12,9 +12,7 @@ ghost use mathlib.Core.List.{List};
 ghost use Prim.Native.Nat.{ℕ, _+_, _-_, _≤_};
 ghost use lib.ListN.{length, take};
 ghost use Rattle.blocks.specs.Blocks.{content};
-ghost use Rattle.automaton.specs.File.{parsed};
-ghost use Rattle.automaton.specs.declared.file.Parsed.{Parsed};
-ghost use Rattle.overloops.specs.Prepared.{Prepared};
+ghost use Rattle.overloops.specs.Prepared.{PreparedOf, Prepared};
 ghost use Rattle.batch.specs.Batch.{passes, turnOf};
 ghost use Rattle.wording.specs.Report.{refusedLine, headOf, tallyLine};
 ghost use Rattle.reporting.specs.Trace.{Asked, Handed, TurnRead};
@@ -121,11 +119,12 @@ fn print_refused(refusal: Refusal) -> bool
     print(&out[..end])
 }
 
-fn print_head(file: &[u8], header: Header) -> bool
-    ensures { λ r. ⌜ (parsed (now (file .entry)) ≡ Parsed.Read header → Handed (headOf header (content (now (file .entry)))) r) ⌝ }
+fn print_head(file: &[u8], header: Header, table: &[u32], leaves: &[u32]) -> bool
+    requires { ⌜ PreparedOf (now file) header (now table) (now leaves) ⌝ }
+    ensures { λ r. ⌜ Handed (headOf header (content (now (file .entry)))) r ⌝ }
 {
     let mut out = [0u8; 232];
-    let end = wording::put_read(&mut out, file, header);
+    let end = wording::put_read(&mut out, file, header, table, leaves);
     print(&out[..end])
 }
 
@@ -145,7 +144,7 @@ fn report_file(file: &[u8], input: Descriptor) -> bool
     match overloops::prepare(file, &mut table, &mut leaves) {
         Parsed::Refused(refusal) => print_refused(refusal),
         Parsed::Read(header) => {
-            let first = print_head(file, header);
+            let first = print_head(file, header, &table, &leaves);
             let tally = tally_files(header, &table, &leaves, input);
             let last = print_tally(tally);
             first & last

@@ -5,7 +5,10 @@ use refusal::Refusal;
 ghost use mathlib.Core.Path.{_≡_};
 ghost use Prim.Native.Nat.{_+_, _*_, _<_, _≤_};
 ghost use lib.ListN.{length};
-ghost use Rattle.transitions.specs.Single.{shared, meet, meetsOne, single, singleOf};
+ghost use Rattle.blocks.specs.Blocks.{content};
+ghost use Rattle.automaton.specs.File.{parsed};
+ghost use Rattle.automaton.specs.declared.file.Parsed.{Parsed};
+ghost use Rattle.transitions.specs.Single.{shared, meet, meetsOne, single, singleIf, singleOf};
 
 // What is told of a file: whether its automaton is single, or its refusal.
 pub enum Singleness {
@@ -74,20 +77,26 @@ fn is_single(content: &[u8], header: Header) -> bool
     true
 }
 
+// Whether the automaton of a file that reads with a header is single.
+pub fn single_read(file: &[u8], header: Header) -> Singleness
+    requires { ⌜ parsed (now file) ≡ Parsed.Read header ⌝ }
+    ensures { λ r. ⌜ r ≡ singleIf (single header (content (now (file .entry)))) ⌝ }
+{
+    let mut buffer = [0u8; 3048];
+    let len = blocks::join(file, &mut buffer);
+    if is_single(&buffer[..len], header) {
+        Singleness::Single
+    } else {
+        Singleness::Multiple
+    }
+}
+
 // Whether the automaton of a file is single, or the file's refusal.
 pub fn single_file(file: &[u8]) -> Singleness
     ensures { λ r. ⌜ r ≡ singleOf (now (file .entry)) ⌝ }
 {
     match automaton::file::parse(file) {
         Parsed::Refused(refusal) => Singleness::Refused(refusal),
-        Parsed::Read(header) => {
-            let mut buffer = [0u8; 3048];
-            let len = blocks::join(file, &mut buffer);
-            if is_single(&buffer[..len], header) {
-                Singleness::Single
-            } else {
-                Singleness::Multiple
-            }
-        }
+        Parsed::Read(header) => single_read(file, header),
     }
 }

@@ -4,6 +4,7 @@ use borrow.Author.Needs.{needs}
 use mathlib.Core.Path.{sym}
 use native.Mathlib.Omega.{arith}
 use lib.Seq.{length-take-le}
+use Rattle.text.proofs.Laws.{same-size}
 use Rattle.reporting.proofs.Laws.{handed-text}
 use Rattle.reporting.proofs.print_head.Statement.{statement}
 use Rattle.reporting.proofs.print_head.Tie as tie
@@ -12,7 +13,7 @@ slice-aggregate-put-read : tie.Need-slice-aggregate-put-read
 slice-aggregate-put-read c = search needs
 
 put-read-requires : tie.Need-put-read-requires
-put-read-requires c κs = search needs
+put-read-requires c κs = (search needs, c .before .before .before .before .pre)
 
 array-share-prefix-out : tie.Need-array-share-prefix-out
 array-share-prefix-out c = search needs
@@ -20,13 +21,13 @@ array-share-prefix-out c = search needs
 slice-aggregate-print : tie.Need-slice-aggregate-print
 slice-aggregate-print c =
     let k = c .before .before .put-read in
-    sym (length-take-le (k .result) (k .last .0) (omega (arith, c .before .before .put-read .ensures .1, c .before .before .put-read .ensures .2)))
+    sym (length-take-le (k .result) (k .last .0) (omega (arith, k .ensures .1, same-size (k .ensures .0))))
 
 print-requires : tie.Need-print-requires
 print-requires c κs = search needs
 
 returns : tie.Need-returns
-returns c e = handed-text (c .before .before .before .put-read .ensures .0 e) _ (c .print .ensures)
+returns c = handed-text (c .before .before .before .put-read .ensures .0) _ (c .print .ensures)
 
 pub print-head-spec : {M : Type 1} → statement M
 print-head-spec =

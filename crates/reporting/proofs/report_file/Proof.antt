@@ -3,7 +3,7 @@
 use borrow.Author.Needs.{needs}
 use mathlib.Core.Path.{refl, sym, _∙_}
 use Rattle.overloops.specs.Prepared.{Prepared}
-use Rattle.overloops.proofs.Laws.{prepared-read}
+use Rattle.overloops.proofs.Laws.{prepared-read, prepared-of}
 use Rattle.reporting.proofs.Laws.{reported-refused, reported-read}
 use Rattle.reporting.proofs.report_file.Statement.{statement}
 use Rattle.reporting.proofs.report_file.Tie as tie
@@ -24,17 +24,25 @@ print-refused-requires c κs = search needs
 enum-known-header : tie.Need-enum-known-header
 enum-known-header c = search needs
 
+slice-aggregate-print-head : tie.Need-slice-aggregate-print-head
+slice-aggregate-print-head c = sym (prepared (c .before) .compiled .size)
+
+slice-aggregate-print-head-2 : tie.Need-slice-aggregate-print-head-2
+slice-aggregate-print-head-2 c = sym (prepared (c .before .before) .leaves-are .size)
+
 print-head-requires : tie.Need-print-head-requires
-print-head-requires c κs = search needs
+print-head-requires c κs =
+    let told = c .before .before in
+    prepared-of _ _ _ _ _ _ _ (told .before .header .given .1) (told .before .before .before .prepare .ensures .0) (told .before .before .before .prepare .ensures .1)
 
 slice-aggregate-tally-files : tie.Need-slice-aggregate-tally-files
-slice-aggregate-tally-files c = sym (prepared (c .before .before) .compiled .size)
+slice-aggregate-tally-files c = sym (prepared (c .before .before .before .before) .compiled .size)
 
 slice-aggregate-tally-files-2 : tie.Need-slice-aggregate-tally-files-2
-slice-aggregate-tally-files-2 c = sym (prepared (c .before .before .before) .leaves-are .size)
+slice-aggregate-tally-files-2 c = sym (prepared (c .before .before .before .before .before) .leaves-are .size)
 
 tally-files-requires : tie.Need-tally-files-requires
-tally-files-requires c κs = prepared (c .before .before .before)
+tally-files-requires c κs = prepared (c .before .before .before .before .before)
 
 print-tally-requires : tie.Need-print-tally-requires
 print-tally-requires c κs = search needs
@@ -44,8 +52,9 @@ returns c = reported-refused _ _ _ _ (sym (c .before .before .before .before .pr
 
 returns-2 : tie.Need-returns-2
 returns-2 c =
-    let reads = sym (c .before .before .before .before .before .before .before .before .prepare .ensures .0) ∙ c .before .before .before .before .before .before .header .given .1 in
-    reported-read _ _ _ _ _ _ _ reads (c .before .tally-files .ensures (prepared (c .before .before .before .before .before))) (c .before .before .before .before .print-head .ensures reads) (c .print-tally .ensures) refl
+    let told = c .before .before .before .before .before .before .before in
+    let reads = sym (told .before .before .before .prepare .ensures .0) ∙ told .before .header .given .1 in
+    reported-read _ _ _ _ _ _ _ reads (c .before .tally-files .ensures (prepared told)) (c .before .before .before .before .print-head .ensures) (c .print-tally .ensures) refl
 
 pub report-file-spec : {M : Type 1} → statement M
 report-file-spec =
@@ -55,6 +64,8 @@ report-file-spec =
     enum-known-refusal
     print-refused-requires
     enum-known-header
+    slice-aggregate-print-head
+    slice-aggregate-print-head-2
     print-head-requires
     slice-aggregate-tally-files
     slice-aggregate-tally-files-2

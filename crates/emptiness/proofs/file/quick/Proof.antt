@@ -1,15 +1,13 @@
--- `emptiness::file::quick` meets its contract: a refused file is told, and any other answered by its automaton's least sets. Demand 3 is then
--- a law of the definition.
+-- `emptiness::file::quick` meets its contract: a refused file is told, and any other answered by its automaton. Demand 3 is then a law of the
+-- definition.
 -- Assumes nothing.
 use borrow.Author.Needs.{needs}
 use Prim.Native.Nat.{ℕ}
-use mathlib.Core.Path.{_≡_, refl, sym, _∙_}
+use mathlib.Core.Path.{_≡_, sym, _∙_}
 use mathlib.Core.List.{List}
-use Rattle.automaton.proofs.Passed.{file-read}
-use Rattle.transitions.proofs.Meaning.{file-proper}
 use Rattle.overloops.specs.Prepared.{Prepared}
 use Rattle.overloops.proofs.Laws.{prepared-read}
-use Rattle.emptiness.specs.Checked.{clearOr, checked}
+use Rattle.emptiness.specs.Checked.{checked}
 use Rattle.emptiness.specs.Demand3.{Demand3Quick}
 use Rattle.emptiness.proofs.Proved.{checked-right}
 use Rattle.emptiness.specs.declared.Quick.{Quick}
@@ -25,35 +23,43 @@ abbrev prepared : (c : tie.After-known-told2) → Prepared (c .before .header .g
     (c .before .before .before .prepare .last .1 .1 .0)
 prepared c = prepared-read _ _ _ _ _ _ _ (c .before .header .given .1) (c .before .before .before .prepare .ensures .0) (c .before .before .before .prepare .ensures .1)
 
-refused-is : (c : tie.After-known-told) → Quick.Refused (c .before .refusal .given .0 .0)
-    ≡ checked (c .before .before .before .before .before .before .before .args .file .now)
-unfolding checked
-refused-is c = rw (sym (c .before .before .before .prepare .ensures .0) ∙ c .before .refusal .given .1)
+prepare-requires : tie.Need-prepare-requires
+prepare-requires c κs = search needs
 
-answer-is : (c : tie.After-is-clear) → clearOr (c .is-clear .result)
-    ≡ checked (c .before .before .before .before .before .before .before .before .before .before .args .file .now)
+enum-known-refusal : tie.Need-enum-known-refusal
+enum-known-refusal c = search needs
+
+enum-known-header : tie.Need-enum-known-header
+enum-known-header c = search needs
+
+slice-aggregate-quick-prepared : tie.Need-slice-aggregate-quick-prepared
+slice-aggregate-quick-prepared c = sym (prepared (c .before) .compiled .size)
+
+slice-aggregate-quick-prepared-2 : tie.Need-slice-aggregate-quick-prepared-2
+slice-aggregate-quick-prepared-2 c = sym (prepared (c .before .before) .leaves-are .size)
+
+quick-prepared-requires : tie.Need-quick-prepared-requires
+quick-prepared-requires c κs = prepared (c .before .before)
+
+returns : tie.Need-returns
 unfolding checked
-answer-is c =
+returns c = both _ _ (rw (sym (c .before .before .before .prepare .ensures .0) ∙ c .before .refusal .given .1))
+
+returns-2 : tie.Need-returns-2
+unfolding checked
+returns-2 c =
     let told = c .before .before .before in
-    let p = prepared told in
-    rw (
-      sym (told .before .before .before .prepare .ensures .0) ∙ told .before .header .given .1,
-      c .is-clear .ensures _ (record { initial = refl; final = refl }) refl (record { compiled = p .compiled; states = refl; proper = file-proper (p .file) _ (p .read) }) (p .leaves-are),
-    )
+    both _ _ (rw (sym (told .before .before .before .prepare .ensures .0) ∙ told .before .header .given .1) (c .quick-prepared .ensures (prepared told)))
 
 pub quick-spec : {M : Type 1} → statement M
 quick-spec =
     tie.close
     (tie.spec
-    (λ c κs. search needs)
-    (λ c. search needs)
-    (λ c. search needs)
-    (λ c. sym (prepared (c .before) .compiled .size))
-    (λ c. sym (prepared (c .before .before) .leaves-are .size))
-    (λ c κs.
-    let p = prepared (c .before .before) in
-    let f = file-read _ _ (p .read) in
-    (p .compiled .size, p .leaves-are .size, f .laid-out .states, f .laid-out .symbols))
-    (λ c. both _ _ (refused-is c))
-    (λ c. both _ _ (rw (c .if1 .taken) at (answer-is (c .before))))
-    (λ c. both _ _ (rw (c .if1 .left) at (answer-is (c .before)))))
+    prepare-requires
+    enum-known-refusal
+    enum-known-header
+    slice-aggregate-quick-prepared
+    slice-aggregate-quick-prepared-2
+    quick-prepared-requires
+    returns
+    returns-2)
