@@ -24,13 +24,13 @@
 #include <stdint.h>
 
 #define ENGINE_JUDGE_STACK (80 * 1024)
-#define ENGINE_SURVEY_STACK (64 * 1024)
+#define ENGINE_SURVEY_STACK (60 * 1024)
 #define ENGINE_QUICK_STACK (52 * 1024)
 #define ENGINE_SINGLE_STACK (8 * 1024)
 #define ENGINE_COUNT_STACK (4 * 1024)
 #define ENGINE_PERCENT_STACK (4 * 1024)
 #define ENGINE_TALLY_STACK (80 * 1024)
-#define ENGINE_REPORT_STACK (108 * 1024)
+#define ENGINE_REPORT_STACK (84 * 1024)
 
 #ifdef __cplusplus
 extern "C" {
