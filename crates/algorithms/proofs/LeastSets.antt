@@ -23,7 +23,7 @@ use Rattle.model.proofs.Congruence.{simple-map}
 use Rattle.model.specs.Approximation.{Part, Top, Holds, Least}
 use Rattle.model.proofs.Inside.{overloop-inside, clear-rejects}
 use Rattle.algorithms.specs.Automaton.{Automaton, In, Δ, Accepted, Proper, alphabetOf}
-use Rattle.algorithms.specs.Overloops.{accepting}
+use Rattle.algorithms.specs.Overloops.{acceptedBy}
 use Rattle.algorithms.specs.Saturate.{Parts, parts, sameParts}
 use Rattle.algorithms.specs.Approximate.{side, stopIf, leafSide, formedSide, formed, settled, leastParts, rootSide, setsOf, clear?}
 use Rattle.algorithms.proofs.Tests.{T-true}
@@ -98,19 +98,19 @@ module _ (A : Automaton) (P : Proper A) where
       by false e (inr m) later = later (omega arith)
 
   -- ---- the sets hold
-  pub top-has : (x : Parts) (p : ℕ) → Top (setsOf A x) p ↔ ((f : ℕ) × In (A .final) f × has (rootSide A x) p f)
+  pub top-has : (x : Parts) (p : ℕ) → Top (setsOf A x) p ↔ ((f : ℕ) × In (A .accepting) f × has (rootSide A x) p f)
   top-has x p = (
     λ t.
-        let c = meeting-has (rootSide A x) (2 ^ p) (A .final) .0 (T-true _ t) in
+        let c = meeting-has (rootSide A x) (2 ^ p) (A .accepting) .0 (T-true _ t) in
         (c .1, c .3, subst (λ (i : ℕ). has (rootSide A x) i (c .1)) (sym (bit-pow-eq p (c .0) (c .2))) (c .4)),
-    λ (f, e, h). rw (meeting-has (rootSide A x) (2 ^ p) (A .final) .1 (p, f, bit-pow p, e, h)) tt,
+    λ (f, e, h). rw (meeting-has (rootSide A x) (2 ^ p) (A .accepting) .1 (p, f, bit-pow p, e, h)) tt,
   )
 
   abbrev HoldsLeaves : Parts → Type 0
   HoldsLeaves x = (s : Side) (p q : ℕ) → has (leafSide A s) p q → has (side s x) p q
 
   fixed-holds : (x : Parts) → WithinParts A x → HoldsLeaves x → formed A x ≡ x →
-      Holds (Δ A) (alphabetOf A) (In (A .final)) (Part (setsOf A x)) (Top (setsOf A x))
+      Holds (Δ A) (alphabetOf A) (In (A .accepting)) (Part (setsOf A x)) (Top (setsOf A x))
   fixed-holds x w l e =
       record {
         leaf-part = λ s σ p q m c. held (side s x) p q .1 (l s p q (has-leafSide A P s p q .1 (σ, m, c)));
@@ -126,7 +126,7 @@ module _ (A : Automaton) (P : Proper A) where
       to-tabled = chain-map (λ k. k) (simple-map (Δ A) (λ s a b z. tabled x s a b (held (side s x) a b .0 z)))
 
   -- ---- and any sets that hold have them inside
-  module _ {Q : Side → ℕ → ℕ → Type 0} {R : ℕ → Type 0} (h : Holds (Δ A) (alphabetOf A) (In (A .final)) Q R) where
+  module _ {Q : Side → ℕ → ℕ → Type 0} {R : ℕ → Type 0} (h : Holds (Δ A) (alphabetOf A) (In (A .accepting)) Q R) where
     abbrev Below : Parts → Type 0
     Below x = (s : Side) (p q : ℕ) → has (side s x) p q → Q s p q
 
@@ -143,7 +143,7 @@ module _ (A : Automaton) (P : Proper A) where
     below-top : (x : Parts) → WithinParts A x → Below x → (p : ℕ) → Top (setsOf A x) p → R p
     below-top x w b p t = let c = top-has x p .0 t in by (c .0) (c .1) (has-rootSide A P x w p (c .0) .0 (c .2))
       where
-        by : (f : ℕ) → In (A .final) f → LeafTop A p f ⊎ BranchTop A x p f → R p
+        by : (f : ℕ) → In (A .accepting) f → LeafTop A p f ⊎ BranchTop A x p f → R p
         by f e (inl (σ, m, (c, l))) = h .leaf-top σ p f m c e
         by f e (inr (σ, m, (c, l))) = h .node-top σ p f m (below-chain x b c) e
 
@@ -173,7 +173,7 @@ module _ (A : Automaton) (P : Proper A) where
       (λ x g. (within-formed A P x (g .0), λ s p q h. rw (side-formed A) (has-formedSide A P x (g .0) s p q .1 (inl (g .1 s p q h)))))
       1153 start (within-start, start-leaves) .1
 
-  parts-below : {Q : Side → ℕ → ℕ → Type 0} {R : ℕ → Type 0} → Holds (Δ A) (alphabetOf A) (In (A .final)) Q R →
+  parts-below : {Q : Side → ℕ → ℕ → Type 0} {R : ℕ → Type 0} → Holds (Δ A) (alphabetOf A) (In (A .accepting)) Q R →
       (s : Side) (p q : ℕ) → has (side s (leastParts A)) p q → Q s p q
   unfolding leastParts
   parts-below {Q} h = settled-keeps (λ x. WithinParts A x × Below h x) (below-formed h) 1153 start (within-start, first) .1
@@ -182,11 +182,11 @@ module _ (A : Automaton) (P : Proper A) where
       first Left p q k = let c = has-leafSide A P Left p q .0 k in h .leaf-part Left (c .0) p q (c .1) (c .2)
       first Right p q k = let c = has-leafSide A P Right p q .0 k in h .leaf-part Right (c .0) p q (c .1) (c .2)
 
-  pub parts-hold : Holds (Δ A) (alphabetOf A) (In (A .final)) (Part (setsOf A (leastParts A))) (Top (setsOf A (leastParts A)))
+  pub parts-hold : Holds (Δ A) (alphabetOf A) (In (A .accepting)) (Part (setsOf A (leastParts A))) (Top (setsOf A (leastParts A)))
   parts-hold = fixed-holds (leastParts A) within-least parts-leaves parts-fixed
 
   -- The computed sets are the least that hold the overloops of all leaves and what branches form.
-  pub parts-least : Least (Δ A) (alphabetOf A) (In (A .final)) (setsOf A (leastParts A))
+  pub parts-least : Least (Δ A) (alphabetOf A) (In (A .accepting)) (setsOf A (leastParts A))
   parts-least =
       record {
         holds = parts-hold;
@@ -201,22 +201,22 @@ module _ (A : Automaton) (P : Proper A) where
   unfolding clear?
   clear-has =
       let X = rootSide A (leastParts A) in
-      let e = meeting-has X (A .initial) (A .final) in (
-        λ t p i k. let c = top-has (leastParts A) p .0 k in T-not (accepting A X) t (rw (e .1 (p, c .0, i, c .1, c .2)) tt),
-        λ h. not-T (accepting A X) (λ t. let c = e .0 (T-true _ t) in h (c .0) (c .2) (top-has (leastParts A) (c .0) .1 (c .1, c .3, c .4))),
+      let e = meeting-has X (A .initial) (A .accepting) in (
+        λ t p i k. let c = top-has (leastParts A) p .0 k in T-not (acceptedBy A X) t (rw (e .1 (p, c .0, i, c .1, c .2)) tt),
+        λ h. not-T (acceptedBy A X) (λ t. let c = e .0 (T-true _ t) in h (c .0) (c .2) (top-has (leastParts A) (c .0) .1 (c .1, c .3, c .4))),
       )
 
   -- The paper's Lemma 27: the overloops of every tree are inside.
   pub parts-inside : (t : Tree) → Over (alphabetOf A) t → (s : Side) (p q : ℕ) → Overloop (Δ A) (Child s) t p q → has (side s (leastParts A)) p q
   parts-inside t o s p q c =
-      held (side s (leastParts A)) p q .0 (overloop-inside (Δ A) (alphabetOf A) (In (A .final)) parts-hold t o s p q c)
+      held (side s (leastParts A)) p q .0 (overloop-inside (Δ A) (alphabetOf A) (In (A .accepting)) parts-hold t o s p q c)
 
   -- The paper's Theorem 28: where the answer is Clear, no tree of any size is accepted.
   pub clear-sound : T (clear? A) → (t : Tree) → Over (alphabetOf A) t → ¬ Accepted A t
-  clear-sound c = clear-rejects (Δ A) (alphabetOf A) (In (A .final)) parts-hold (clear-has .0 c)
+  clear-sound c = clear-rejects (Δ A) (alphabetOf A) (In (A .accepting)) parts-hold (clear-has .0 c)
 
   -- Tables within the states that are least too are the same: so any way to compute them will do.
-  pub parts-unique : (x : Parts) → WithinParts A x → Least (Δ A) (alphabetOf A) (In (A .final)) (setsOf A x) → x ≡ leastParts A
+  pub parts-unique : (x : Parts) → WithinParts A x → Least (Δ A) (alphabetOf A) (In (A .accepting)) (setsOf A x) → x ≡ leastParts A
   parts-unique x w l =
       ap₂ parts (same-pairs (x .left) (leastParts A .left) (w .0) (within-least .0) (same Left))
       (same-pairs (x .right) (leastParts A .right) (w .1) (within-least .1) (same Right))

@@ -26,7 +26,7 @@ use Rattle.model.proofs.Congruence.{Same, sides, parts-by, loop-node-by, overlo
 use Rattle.algorithms.specs.Automaton.{Automaton, In, Δ, Accepted, Proper}
 use Rattle.algorithms.proofs.Tests.{T-true}
 use Rattle.algorithms.specs.Overloops.{rowsFrom, moves, nodeSimple, leafLoops, nodeLoops, upClosure, leafOverloops, nodeOverloops, overloops, loops}
-use Rattle.algorithms.specs.Overloops.{accepting, accepts?}
+use Rattle.algorithms.specs.Overloops.{acceptedBy, accepts?}
 
 -- ---- rows made of a function
 
@@ -263,11 +263,11 @@ module _ (A : Automaton) (P : Proper A) where
       (λ h. (f .1 (e .0 h .0), e .0 h .1), λ c. e .1 (f .0 (c .0), c .1))
 
   -- Where a table has the loops at the root, the test tells acceptance.
-  accepting-has : (t : Tree) (X : List ℕ) → ((p q : ℕ) → has X p q ↔ (Loop (Δ A) Root t p q × (q < n))) → T (accepting A X) ↔ Accepted A t
+  accepting-has : (t : Tree) (X : List ℕ) → ((p q : ℕ) → has X p q ↔ (Loop (Δ A) Root t p q × (q < n))) → T (acceptedBy A X) ↔ Accepted A t
   accepting-has t X same = (
-    λ h. let c = meeting-has X (A .initial) (A .final) .0 (T-true (accepting A X) h) in
+    λ h. let c = meeting-has X (A .initial) (A .accepting) .0 (T-true (acceptedBy A X) h) in
         (c .0, c .1, c .2, c .3, same (c .0) (c .1) .0 (c .4) .0),
-    λ (i, f, a, b, c). rw (meeting-has X (A .initial) (A .final) .1 (i, f, a, b, same i f .1 (c, P .finals f b))) tt,
+    λ (i, f, a, b, c). rw (meeting-has X (A .initial) (A .accepting) .1 (i, f, a, b, same i f .1 (c, P .finals f b))) tt,
   )
 
   -- The computed answer is acceptance by runs (the paper's Corollary 6).

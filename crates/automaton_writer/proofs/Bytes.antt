@@ -57,9 +57,9 @@ module _ (h : Header) where
   unfolding payloadOf wordBytes
   initial-byte i lo hi = word-in counts (h .initial) (wordBytes (h .accepting) ++ wordBytes (h .branches) ++ []) i lo hi
 
-  pub accepting-byte : (i : ℕ) → 12 ≤ i → i < 16 → getD (payloadOf h []) i 0 ≡ getD (wordBytes (h .accepting)) (i - 12) 0
+  pub accepted-byte : (i : ℕ) → 12 ≤ i → i < 16 → getD (payloadOf h []) i 0 ≡ getD (wordBytes (h .accepting)) (i - 12) 0
   unfolding payloadOf wordBytes
-  accepting-byte i lo hi = word-in (counts ++ wordBytes (h .initial)) (h .accepting) (wordBytes (h .branches) ++ []) i lo hi
+  accepted-byte i lo hi = word-in (counts ++ wordBytes (h .initial)) (h .accepting) (wordBytes (h .branches) ++ []) i lo hi
 
   pub branches-byte : (i : ℕ) → 16 ≤ i → i < 20 → getD (payloadOf h []) i 0 ≡ getD (wordBytes (h .branches)) (i - 16) 0
   unfolding payloadOf wordBytes

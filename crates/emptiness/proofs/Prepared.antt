@@ -17,7 +17,7 @@ use Rattle.emptiness.specs.declared.Survey.{Survey}
 
 module _ (h : Header) (table leaves : List ℕ) (p : Prepared h table leaves) where
   pub prepared-of : Of (automatonOf h (content (p .file))) h
-  prepared-of = record { initial = refl; final = refl }
+  prepared-of = record { initial = refl; accepting = refl }
 
   pub prepared-tabled : Tabled (automatonOf h (content (p .file))) (h .states) table
   prepared-tabled = record { compiled = p .compiled; states = refl; proper = file-proper (p .file) h (p .read) }

@@ -72,7 +72,7 @@ pub record Approximates (A : Automaton) (answer : Quick) : Type 0 where
   -- "The quick check of such a walker file answers by document 01's three sets": there are sets ..
   pub sets : Sets
   -- .. which are "the least that hold the crossings of all leaves and, for every branch symbol and place, the pairs formed" (document 01) ..
-  pub least : Least (Δ A) (alphabetOf A) (In (A .final)) sets
+  pub least : Least (Δ A) (alphabetOf A) (In (A .accepting)) sets
   -- .. and the answer is "Clear if the root set has no way up from a start state to acceptance, else Unsure" (document 01), and no refusal.
   pub clear : (answer ≡ Quick.Clear) ↔ NoWayUp A sets
   pub unsure : (answer ≡ Quick.Unsure) ↔ (¬ NoWayUp A sets)

@@ -12,7 +12,7 @@ use Rattle.model.specs.declared.Place.{Place}
 use Rattle.algorithms.specs.Automaton.{Automaton}
 use Rattle.algorithms.specs.Overloops.{loops, accepts?}
 use Rattle.model.specs.declared.Signature.{Signature}
-use Rattle.overloops.proofs.Laws.{accepting-by}
+use Rattle.overloops.proofs.Laws.{accepted-by}
 use Rattle.tree.specs.Preorder.{Writes, Below}
 use Rattle.blocks.specs.Blocks.{content}
 use Rattle.tree.specs.File.{nodesOf, nodesAfter}
@@ -20,10 +20,10 @@ use Rattle.tree.proofs.Reading.{TreeRead, nodes-front}
 use Rattle.tree.proofs.Signatures.{shaped-over}
 use Rattle.tree.specs.declared.file.ParsedTree.{ParsedTree}
 
-pub accepts-by : (A : Automaton) (t : Tree) (initial final : ℕ) (rows : List ℕ) (b : Bool) → A .initial ≡ initial → A .final ≡ final
+pub accepts-by : (A : Automaton) (t : Tree) (initial final : ℕ) (rows : List ℕ) (b : Bool) → A .initial ≡ initial → A .accepting ≡ final
     → rows ≡ loops A Place.Root t → b ≡ meeting rows initial final → b ≡ accepts? A t
 unfolding accepts?
-accepts-by A t initial final rows b i f l m = accepting-by A initial final rows (loops A Place.Root t) b i f l m
+accepts-by A t initial final rows b i f l m = accepted-by A initial final rows (loops A Place.Root t) b i f l m
 
 -- symbols below their count, which is at most 32, are below 32, and so is what stands past the end
 pub below-32 : (m : ℕ) (s : List ℕ) → m ≤ 32 → Below m s → (i : ℕ) → getD s i 0 < 32

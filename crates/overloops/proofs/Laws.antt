@@ -14,7 +14,7 @@ use Rattle.model.specs.declared.Place.{Place}
 use Rattle.model.specs.declared.Move.{Move}
 use Rattle.relation.specs.Rows.{noPairs, joined, composed, closed, meeting}
 use Rattle.algorithms.specs.Automaton.{Automaton, Proper}
-use Rattle.algorithms.specs.Overloops.{accepting, moves, nodeSimple, nodeLoops, upClosure, leafOverloops, nodeOverloops}
+use Rattle.algorithms.specs.Overloops.{acceptedBy, moves, nodeSimple, nodeLoops, upClosure, leafOverloops, nodeOverloops}
 use Rattle.algorithms.proofs.OverloopLaws.{row-moves, leaf-as-node, within-leafOverloops}
 use Rattle.blocks.specs.Blocks.{content}
 use Rattle.refusal.specs.declared.Refusal.{Refusal}
@@ -73,9 +73,9 @@ unfolding nodeOverloops leafOverloops
 leaf-formed A P τ σ l r e = rw (e, l, r, leaf-as-node A P τ σ)
 
 -- acceptance by the loops at the root
-pub accepting-by : (A : Automaton) (initial final : ℕ) (rows loops : List ℕ) (b : Bool) → A .initial ≡ initial → A .final ≡ final → rows ≡ loops
-    → b ≡ meeting rows initial final → b ≡ accepting A loops
-accepting-by A initial final rows loops b i f l m = rw (m, l, i, f)
+pub accepted-by : (A : Automaton) (initial final : ℕ) (rows loops : List ℕ) (b : Bool) → A .initial ≡ initial → A .accepting ≡ final → rows ≡ loops
+    → b ≡ meeting rows initial final → b ≡ acceptedBy A loops
+accepted-by A initial final rows loops b i f l m = rw (m, l, i, f)
 
 pub side-small : (s : Side) → sideNumber s < 2
 side-small Side.Left = omega arith

@@ -15,7 +15,7 @@ use Rattle.transitions.specs.Compiled.{Compiled}
 -- the automaton has the header's sets
 pub record Of (A : Automaton) (h : Header) : Type 0 where
   pub initial : A .initial ≡ h .initial
-  pub final : A .final ≡ h .accepting
+  pub accepting : A .accepting ≡ h .accepting
 
 -- the table is that of an automaton with n states
 pub record Tabled (A : Automaton) (n : ℕ) (table : List ℕ) : Type 0 where

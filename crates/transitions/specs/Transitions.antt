@@ -78,7 +78,7 @@ automatonOf h content =
       states = h .states;
       symbols = h .symbols;
       initial = h .initial;
-      final = h .accepting;
+      accepting = h .accepting;
       branches = h .branches;
       next = nextStates h content (h .rules);
     }

@@ -4,7 +4,7 @@ use borrow.Author.Needs.{needs}
 use mathlib.Core.Path.{ap, _∙_}
 use mathlib.Core.Bool.{not}
 use Rattle.algorithms.specs.Approximate.{settled, leastParts, rootSide, clear?}
-use Rattle.overloops.proofs.Laws.{accepting-by}
+use Rattle.overloops.proofs.Laws.{accepted-by}
 use Rattle.approximation.proofs.is_clear.Statement.{statement}
 use Rattle.approximation.proofs.is_clear.Tie as tie
 
@@ -15,4 +15,4 @@ is-clear-spec =
     (tie.spec (λ c κs. search needs) (λ c κs. search needs) (λ c κs. search needs) (λ c κs. search needs) (λ c. λ A o a k l.
     let sets-are = c .before .before .settled .ensures A a k ∙ ap (settled A 1153) (c .before .before .before .leaf-sets .ensures A a (k .proper) l) in
     let root-is = c .before .root-loops .ensures A a k ∙ ap (rootSide A) sets-are in
-    ap not (accepting-by A _ _ _ _ _ (o .initial) (o .final) root-is (c .meets .ensures))))
+    ap not (accepted-by A _ _ _ _ _ (o .initial) (o .accepting) root-is (c .meets .ensures))))

@@ -3,7 +3,7 @@
 use borrow.Author.Needs.{needs}
 use native.Mathlib.Omega.{arith}
 use mathlib.Core.Path.{sym, _∙_}
-use Rattle.automaton_writer.proofs.Bytes.{initial-byte, accepting-byte, branches-byte}
+use Rattle.automaton_writer.proofs.Bytes.{initial-byte, accepted-byte, branches-byte}
 use Rattle.automaton_writer.proofs.header_byte.Statement.{statement}
 use Rattle.automaton_writer.proofs.header_byte.Tie as tie
 
@@ -15,7 +15,7 @@ returns-2 c =
 returns-3 : tie.Need-returns-3
 returns-3 c =
     let a = c .before .before .before .before .args in
-    c .word-byte2 .ensures ∙ sym (accepting-byte (a .header) (a .i) (omega arith) (omega arith))
+    c .word-byte2 .ensures ∙ sym (accepted-byte (a .header) (a .i) (omega arith) (omega arith))
 
 returns-4 : tie.Need-returns-4
 returns-4 c =

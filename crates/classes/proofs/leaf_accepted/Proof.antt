@@ -1,7 +1,7 @@
 -- `classes::leaf_accepted` meets its contract: a loop at the root leads from an initial state to a final one.
 -- Assumes nothing.
 use borrow.Author.Needs.{needs}
-use Rattle.overloops.proofs.Laws.{accepting-by}
+use Rattle.overloops.proofs.Laws.{accepted-by}
 use Rattle.classes.proofs.leaf_accepted.Statement.{statement}
 use Rattle.classes.proofs.leaf_accepted.Tie as tie
 
@@ -12,4 +12,4 @@ leaf-accepted-spec =
     (λ c. search needs)
     (λ c κs. search needs)
     (λ c κs. search needs)
-    (λ c. λ A o k. accepting-by A _ _ _ _ _ (o .initial) (o .final) (c .before .leaf-loops .ensures A k) (c .meets .ensures)))
+    (λ c. λ A o k. accepted-by A _ _ _ _ _ (o .initial) (o .accepting) (c .before .leaf-loops .ensures A k) (c .meets .ensures)))

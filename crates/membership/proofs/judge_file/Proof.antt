@@ -49,7 +49,7 @@ answer-is : (c : tie.After-accepts) (p : Prepared (h (c .before .before)) (c .be
     c .accepts .result
     ≡ accepts? (automatonOf (h (c .before .before)) (content (p .file))) (treeOf (h (c .before .before) .branches) (nodesOf (k (c .before .before)) (content (s (c .before .before)))))
 answer-is c p =
-    c .accepts .ensures (automatonOf (h (c .before .before)) (content (p .file))) (record { initial = refl; final = refl })
+    c .accepts .ensures (automatonOf (h (c .before .before)) (content (p .file))) (record { initial = refl; accepting = refl })
     (record { compiled = p .compiled; states = refl; proper = file-proper (p .file) (h (c .before .before)) (p .read) }) (p .leaves-are)
     (treeOf (h (c .before .before) .branches) (nodesOf (k (c .before .before)) (content (s (c .before .before)))))
     (rw (nodes-are (c .before .before)) (read (c .before .before) .stands))
