@@ -1,9 +1,9 @@
 -- What reading an automaton's file gives (document 01, the walker file): its header, lines 1 to 9 of the table of refusals, and the order.
--- Interface: `headerOf`, `countsCheck`, `beyond`, `setsCheck`, `layoutCheck`, `LaidOut`, `bodyCheck`, `parsed`, `readAutomaton`.
+-- Interface: `headerOf`, `countsCheck`, `beyond`, `setsCheck`, `layoutCheck`, `LaidOut`, `bodyCheck`, `parsed`, `contentsAfter`, `readAutomaton`.
 use Prim.Native.Nat.{ℕ, _+_, _*_, _/_, _^_, _≤_}
 use mathlib.Core.Bool.{Bool, not}
-use mathlib.Core.List.{List}
-use lib.ListN.{length, getD}
+use mathlib.Core.List.{List, _++_}
+use lib.ListN.{length, getD, drop}
 use lib.Dec.{eqb}
 use Rattle.blocks.specs.Blocks.{wordAt, content}
 use Rattle.refusal.specs.Checks.{refuseIf, _andThen_, checkEach}
@@ -80,6 +80,11 @@ parsed s =
     let p = content s in
     let h = headerOf p in
     readOf (fileCheck format s andThen layoutCheck h p andThen bodyCheck h p) h
+
+-- what a lent buffer holds afterwards: the joined contents at its front; on a refusal, what it held
+abbrev pub contentsAfter : Parsed → (file buffer : List ℕ) → List ℕ
+contentsAfter (Parsed.Read h) file buffer = content file ++ drop (length (content file)) buffer
+contentsAfter (Parsed.Refused r) file buffer = buffer
 
 -- ---- what is answered to a file
 

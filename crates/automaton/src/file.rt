@@ -1,4 +1,5 @@
 // An automaton's file: its header, lines 1 to 9 of the table, and what reading gives.
+use crate::Contents;
 use crate::Header;
 use refusal::Check;
 use refusal::Fault;
@@ -13,7 +14,7 @@ use refusal::refused;
 ghost use mathlib.Core.Path.{_≡_};
 ghost use Prim.Native.Nat.{_*_, _+_, _≤_};
 ghost use lib.ListN.{length};
-ghost use Rattle.automaton.specs.File.{headerOf, countsCheck, layoutCheck, beyond, setsCheck, LaidOut, bodyCheck, parsed};
+ghost use Rattle.automaton.specs.File.{headerOf, countsCheck, layoutCheck, beyond, setsCheck, LaidOut, bodyCheck, parsed, contentsAfter};
 
 // What reading a file gives.
 pub enum Parsed {
@@ -117,9 +118,9 @@ fn body_check(content: &[u8], header: Header) -> Check
     crate::rules::rules_check(content, header)
 }
 
-// The counts and the sets of an automaton's file, or its refusal.
-pub fn parse(file: &[u8]) -> Parsed
-    ensures { λ r. ⌜ r ≡ parsed (now (file .entry)) ⌝ }
+// Reads an automaton's file: its counts and sets, and its joined contents at the front of a lent buffer; or its refusal.
+pub fn parse(file: &[u8], contents: &mut Contents) -> Parsed
+    ensures { λ r. ⌜ (r ≡ parsed (now (file .entry))) × (now (contents .exit) ≡ contentsAfter r (now (file .entry)) (now (contents .entry))) ⌝ }
 {
     if let Check::Refused(refusal) = file_check(FORMAT, file) {
         return Parsed::Refused(refusal);
@@ -134,5 +135,6 @@ pub fn parse(file: &[u8]) -> Parsed
     if let Check::Refused(refusal) = body_check(content, header) {
         return Parsed::Refused(refusal);
     }
+    bytes::copy(content, contents);
     Parsed::Read(header)
 }

@@ -7,6 +7,9 @@ use model::Place;
 use model::State;
 use model::Symbol;
 
+// Room for the joined contents of the longest file, six blocks.
+pub type Contents = [u8; 3048];
+
 // Where a rule applies: at one place, or at all three.
 pub enum Scope {
     Only(Place),

@@ -2,10 +2,11 @@
 -- Assumes nothing.
 use borrow.Author.Needs.{needs}
 use Prim.Native.Nat.{ℕ, _≤_}
-use mathlib.Core.Path.{_≡_, sym, ap, ap₂, _∙_}
+use mathlib.Core.Path.{_≡_, refl, sym, ap, ap₂, _∙_}
 use mathlib.Core.List.{List}
 use native.Mathlib.Omega.{arith}
 use lib.ListN.{length, take, length-append}
+use lib.Seq.{take-all}
 use Rattle.blocks.specs.Blocks.{content}
 use Rattle.blocks.proofs.Laws.{content-length, joined-is}
 use Rattle.refusal.specs.Lines.{fileCheck}
@@ -37,6 +38,15 @@ module _ (c : tie.After-join) where
       let size = file-passed format (fileAt (c .before .before)) (file-is (c .before .before)) in
       omega (arith, content-length (fileAt (c .before .before)))
 
+  content-most : length contentAt ≤ 3048
+  content-most =
+      let size = file-passed format (fileAt (c .before .before)) (file-is (c .before .before)) in
+      omega (arith, content-length (fileAt (c .before .before)))
+
+  -- all of it is copied
+  content-all : take (length contentAt) contentAt ≡ contentAt
+  content-all = take-all (length contentAt) contentAt (omega arith)
+
 header-is : (c : tie.After-header) → c .header .result ≡ headerOf (contentAt (c .before .before .before))
 header-is c = c .header .ensures ∙ ap headerOf (content-is (c .before .before .before))
 
@@ -62,7 +72,7 @@ parse-spec =
     (tie.spec
     (λ c κs. search needs)
     (λ c. search needs)
-    (λ c. rw (sym (c .before .before .before .file-check .ensures) ∙ c .before .refusal .given .1))
+    (λ c. (rw (sym (c .before .before .before .file-check .ensures) ∙ c .before .refusal .given .1), refl))
     (λ c. search needs)
     (λ c. search needs)
     (λ c κs. let size = file-passed format _ (file-is (c .before)) in omega arith)
@@ -72,15 +82,19 @@ parse-spec =
     (λ c κs. let size = content-size (c .before .before .before) in rw (content-is (c .before .before .before)) (omega arith))
     (λ c. search needs)
     (λ c.
-    rw (file-is (c .before .before .before .before .before .before .before .before .before), sym (layout-is (c .before .before .before)) ∙ c .before .refusal2 .given .1))
+    (rw (file-is (c .before .before .before .before .before .before .before .before .before), sym (layout-is (c .before .before .before)) ∙ c .before .refusal2 .given .1), refl))
     (λ c. search needs)
     (λ c κs. layout-passed _ _ (sym (c .before .before .layout-check .ensures) ∙ c .enum-told2 .given .1))
     (λ c. search needs)
     (λ c.
     let told = c .before .before .before .before in
-    rw (file-is (told .before .before .before .before .before .before .before .before), layout-passes told, sym (body-is (c .before .before .before)) ∙ c .before .refusal3 .given .1))
+    (rw (file-is (told .before .before .before .before .before .before .before .before), layout-passes told, sym (body-is (c .before .before .before)) ∙ c .before .refusal3 .given .1), refl))
     (λ c. search needs)
+    (λ c κs. rw (content-is (c .before .before .before .before .before .before .before .before .before .before), c .copy-arg .given .0 .1) (content-most (c .before .before .before .before .before .before .before .before .before .before)))
     (λ c.
-    let told = c .before .before .before in
-    rw (file-is (told .before .before .before .before .before .before .before .before), layout-passes told, sym (body-is (c .before .before)) ∙ c .enum-told3 .given .1)
-    (ap Parsed.Read (header-is (told .before .before .before)))))
+    let told = c .before .before .before .before .before in
+    (
+      rw (file-is (told .before .before .before .before .before .before .before .before), layout-passes told, sym (body-is (c .before .before .before .before)) ∙ c .before .before .enum-told3 .given .1)
+          (ap Parsed.Read (header-is (told .before .before .before))),
+      rw (content-is (c .before .before .before .before .before .before .before .before .before .before .before), content-all (c .before .before .before .before .before .before .before .before .before .before .before)) at (c .copy .ensures .1),
+    )))
