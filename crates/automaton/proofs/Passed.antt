@@ -1,14 +1,15 @@
 -- What is known where lines 3 to 9 passed, up to a file that reads.
 -- Assumes nothing.
 use Prim.Native.Nat.{ℕ, _+_, _*_, _<_}
-use mathlib.Core.Path.{_≡_, refl}
+use mathlib.Core.Path.{_≡_, refl, sym}
 use mathlib.Core.Bool.{Bool, true, false, _&&_}
 use mathlib.Core.List.{List}
 use native.Mathlib.Omega.{arith}
 use borrow.Author.Tests.{ltb-true}
 use lib.Dec.{ltb}
-use lib.ListN.{length, getD}
+use lib.ListN.{length, getD, take}
 use Rattle.blocks.specs.Blocks.{content}
+use Rattle.blocks.proofs.Laws.{joined-is}
 use Rattle.refusal.specs.Checks.{_andThen_}
 use Rattle.refusal.specs.Lines.{fileCheck, kindCheck, countCheck, sizeCheck, fillerCheck}
 use Rattle.refusal.specs.declared.Check.{Check}
@@ -16,7 +17,7 @@ use Rattle.refusal.specs.declared.Check.the-variants.{Passed, Refused}
 use Rattle.refusal.specs.declared.Fault.{Fault}
 use Rattle.refusal.proofs.Passed.{clash, both-passed, if-passed, and-is-true, each-passed, FileSize, file-passed, count-passed, size-passed}
 use Rattle.automaton.specs.Rules.{rule, sorted, knownIf, ruleAt, sortPlace, sortMove, misplaced, ruleRefusal, ruleCheck}
-use Rattle.automaton.specs.File.{format, payload, countsCheck, layoutCheck, LaidOut, setsCheck, rulesCheck, bodyCheck, headerOf, readOf, parsed}
+use Rattle.automaton.specs.File.{format, payload, countsCheck, layoutCheck, LaidOut, setsCheck, rulesCheck, bodyCheck, headerOf, readOf, parsed, contentsAfter}
 use Rattle.automaton.specs.declared.Header.{Header}
 use Rattle.automaton.specs.declared.Rule.{Rule}
 use Rattle.automaton.specs.declared.file.Parsed.{Parsed}
@@ -116,3 +117,8 @@ file-read s h e =
       sets = last .0;
       rules = λ i l. rule-passed g p i (each-passed (ruleCheck g p) 0 (g .rules) (last .1) i (omega arith) (omega arith));
     })
+
+-- what a buffer has at its front that was lent to the reader of a file that reads
+pub contents-are : (s before after : List ℕ) (r : Parsed) (h : Header) (n : ℕ) → r ≡ Parsed.Read h → after ≡ contentsAfter r s before
+    → n ≡ length (content s) → take n after ≡ content s
+contents-are s before after r h n e a m = joined-is s n before after m (rw (e, sym m) at a)

@@ -43,13 +43,6 @@ fn file_blocks(first: &[u8]) -> usize
     (nodes + 511) / 508
 }
 
-// The first n bytes, or all where there are fewer.
-fn front(bytes: &[u8], n: usize) -> &[u8]
-    ensures { λ r. ⌜ now r ≡ take n (now (bytes .entry)) ⌝ }
-{
-    if n <= bytes.len() { &bytes[..n] } else { bytes }
-}
-
 // The bytes from a place on; none where the place is past the end.
 fn back(bytes: &[u8], at: usize) -> &[u8]
     ensures { λ r. ⌜ now r ≡ drop at (now (bytes .entry)) ⌝ }
@@ -65,7 +58,7 @@ fn back(bytes: &[u8], at: usize) -> &[u8]
 pub fn first_length(bytes: &[u8]) -> usize
     ensures { λ r. ⌜ (r ≡ firstLength (now (bytes .entry))) × (512 ≤ r) × (r ≤ 4608) ⌝ }
 {
-    512 * file_blocks(front(bytes, 512))
+    512 * file_blocks(blocks::front(bytes, 512))
 }
 
 // Where the file that begins at a place ends, within the bytes.

@@ -1,6 +1,7 @@
 // The transitions of an automaton, compiled from its rules into a table of sets of next states: a cell for each symbol, place, move and state.
 pub mod single;
 
+use automaton::Contents;
 use automaton::Header;
 use automaton::Rule;
 use automaton::Scope;
@@ -14,10 +15,13 @@ use model::Symbol;
 ghost use mathlib.Core.Path.{_≡_};
 ghost use Prim.Native.Nat.{_+_, _*_, _<_, _≤_};
 ghost use lib.ListN.{length, replicate};
-ghost use Rattle.automaton.specs.File.{LaidOut, parsed};
+ghost use Rattle.automaton.specs.File.{LaidOut, parsed, contentsAfter};
 ghost use Rattle.automaton.specs.Rules.{ruleAt};
 ghost use Rattle.transitions.specs.Transitions.{placeNumber, moveNumber, automatonOf};
 ghost use Rattle.transitions.specs.Compiled.{cellOf, RuleFits, Stepped, Added, Compiled, Loaded};
+
+// A set of next states for each of 32 symbols, 3 places, 4 moves and 24 states.
+pub type TransitionTable = [u32; 9216];
 
 fn place_number(place: Place) -> usize
     ensures { λ r. ⌜ (r ≡ placeNumber place) × (r < 3) ⌝ }
@@ -103,8 +107,8 @@ fn clear(table: &mut [u32])
 }
 
 // Fills a table with the transitions that the rules allow.
-fn compile(content: &[u8], header: Header, table: &mut [u32])
-    requires { ⌜ LaidOut header (now content) × (length (now table) ≡ 9216) ⌝ }
+fn compile(content: &[u8], header: Header, table: &mut TransitionTable)
+    requires { ⌜ LaidOut header (now content) ⌝ }
     ensures { λ _. ⌜ Compiled (automatonOf header (now (content .entry))) (now (table .exit)) ⌝ }
 {
     clear(table);
@@ -116,16 +120,17 @@ fn compile(content: &[u8], header: Header, table: &mut [u32])
     }
 }
 
-// Reads an automaton's file and compiles its transitions. A refused file leaves the table as it was.
-pub fn load(file: &[u8], table: &mut [u32; 9216]) -> Parsed
-    ensures { λ r. ⌜ (r ≡ parsed (now (file .entry))) × Loaded r (now (file .entry)) (now (table .entry)) (now (table .exit)) ⌝ }
+// Reads an automaton's file: its joined contents go to the front of one lent buffer, its compiled transitions to the other. A refused file leaves
+// both as they were.
+pub fn load(file: &[u8], contents: &mut Contents, table: &mut TransitionTable) -> Parsed
+    ensures { λ r. ⌜ (r ≡ parsed (now (file .entry))) × (now (contents .exit) ≡ contentsAfter r (now (file .entry)) (now (contents .entry)))
+        × Loaded r (now (file .entry)) (now (table .entry)) (now (table .exit)) ⌝ }
 {
-    match automaton::file::parse(file) {
+    match automaton::file::parse(file, contents) {
         Parsed::Refused(refusal) => Parsed::Refused(refusal),
         Parsed::Read(header) => {
-            let mut buffer = [0u8; 3048];
-            let len = blocks::join(file, &mut buffer);
-            compile(&buffer[..len], header, table);
+            let len = blocks::content_length(file);
+            compile(blocks::front(contents, len), header, table);
             Parsed::Read(header)
         }
     }

@@ -5,9 +5,6 @@ use refusal::Refusal;
 ghost use mathlib.Core.Path.{_≡_};
 ghost use Prim.Native.Nat.{_+_, _*_, _<_, _≤_};
 ghost use lib.ListN.{length};
-ghost use Rattle.blocks.specs.Blocks.{content};
-ghost use Rattle.automaton.specs.File.{parsed};
-ghost use Rattle.automaton.specs.declared.file.Parsed.{Parsed};
 ghost use Rattle.transitions.specs.Single.{shared, meet, meetsOne, single, singleIf, singleOf};
 
 // What is told of a file: whether its automaton is single, or its refusal.
@@ -77,14 +74,12 @@ fn is_single(content: &[u8], header: Header) -> bool
     true
 }
 
-// Whether the automaton of a file that reads with a header is single.
-pub fn single_read(file: &[u8], header: Header) -> Singleness
-    requires { ⌜ parsed (now file) ≡ Parsed.Read header ⌝ }
-    ensures { λ r. ⌜ r ≡ singleIf (single header (content (now (file .entry)))) ⌝ }
+// Whether the automaton of a header and the joined contents is single.
+pub fn single_read(contents: &[u8], header: Header) -> Singleness
+    requires { ⌜ 20 + 5 * header .rules ≤ length (now contents) ⌝ }
+    ensures { λ r. ⌜ r ≡ singleIf (single header (now (contents .entry))) ⌝ }
 {
-    let mut buffer = [0u8; 3048];
-    let len = blocks::join(file, &mut buffer);
-    if is_single(&buffer[..len], header) {
+    if is_single(contents, header) {
         Singleness::Single
     } else {
         Singleness::Multiple
@@ -95,8 +90,12 @@ pub fn single_read(file: &[u8], header: Header) -> Singleness
 pub fn single_file(file: &[u8]) -> Singleness
     ensures { λ r. ⌜ r ≡ singleOf (now (file .entry)) ⌝ }
 {
-    match automaton::file::parse(file) {
+    let mut contents = [0u8; 3048];
+    match automaton::file::parse(file, &mut contents) {
         Parsed::Refused(refusal) => Singleness::Refused(refusal),
-        Parsed::Read(header) => single_read(file, header),
+        Parsed::Read(header) => {
+            let len = blocks::content_length(file);
+            single_read(&contents[..len], header)
+        }
     }
 }

@@ -23,12 +23,11 @@ compile-spec =
     μ-loop
     (λ c κs. search needs)
     (λ c. search needs)
-    (λ c. (search needs, rw (c .before .before .before .clear .ensures) (none-held _ _ _ (c .before .before .before .before .before .before .before .pre .1))))
+    (λ c. (search needs, rw (c .before .clear .ensures) (none-held _ _ _ (c .before .before .clear-arg .given .0 .1))))
     (λ c κs. search needs)
     (λ c. search needs)
     (λ c. search needs)
-    (λ c. (search needs, one-held _ _ _ _ _ (c .before .before .before .before .before .loop .inv .1) (c .before .before .add-rule-at .ensures)))
-    (λ c. search needs)
+    (λ c. (search needs, one-held _ _ _ _ _ (c .before .before .before .loop .inv .1) (c .add-rule-at .ensures)))
     (λ c.
-    let end : c .before .loop .i ≡ c .before .before .before .before .before .before .before .before .before .args .header .rules = search needs in
+    let end : c .before .loop .i ≡ c .before .before .before .before .before .before .args .header .rules = search needs in
     rw end at (c .before .loop .inv .1)))

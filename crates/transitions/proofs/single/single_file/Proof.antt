@@ -1,38 +1,37 @@
--- `transitions::single::single_file` meets its contract: by what reading says.
+-- `transitions::single::single_file` meets its contract: by what reading says, and the contents that it lent.
 -- Assumes nothing.
 use borrow.Author.Needs.{needs}
-use mathlib.Core.Path.{sym, _∙_}
+use native.Mathlib.Omega.{arith}
+use mathlib.Core.Path.{_≡_, sym, ap, _∙_}
+use lib.ListN.{length, take, length-take}
+use Rattle.blocks.specs.Blocks.{content}
+use Rattle.automaton.specs.File.{parsed}
+use Rattle.automaton.specs.declared.file.Parsed.{Parsed}
+use Rattle.automaton.proofs.Passed.{file-read, contents-are}
 use Rattle.transitions.specs.Single.{singleOf}
 use Rattle.transitions.proofs.single.single_file.Statement.{statement}
 use Rattle.transitions.proofs.single.single_file.Tie as tie
 
-parse-requires : tie.Need-parse-requires
-parse-requires c κs = search needs
+-- the file reads
+read-is : (c : tie.After-known-told2) → parsed (c .before .before .before .before .before .before .args .file .now) ≡ Parsed.Read (c .before .header .given .0 .0)
+read-is c = sym (c .before .before .before .parse .ensures .0) ∙ c .before .header .given .1
 
-enum-known-refusal : tie.Need-enum-known-refusal
-enum-known-refusal c = search needs
-
-enum-known-header : tie.Need-enum-known-header
-enum-known-header c = search needs
-
-single-read-requires : tie.Need-single-read-requires
-single-read-requires c κs = sym (c .before .before .before .parse .ensures) ∙ c .before .header .given .1
-
-returns : tie.Need-returns
-unfolding singleOf
-returns c = rw (sym (c .before .before .before .parse .ensures) ∙ c .before .refusal .given .1)
-
-returns-2 : tie.Need-returns-2
-unfolding singleOf
-returns-2 c = rw (sym (c .before .before .before .before .parse .ensures) ∙ c .before .before .header .given .1) (c .single-read .ensures)
+-- the part of the buffer that is lent on holds the joined contents
+content-is : (c : tie.After-content-length) → take (c .content-length .result) (c .before .before .before .before .parse .last .1 .0) ≡ content (c .before .before .before .before .before .before .before .args .file .now)
+content-is c =
+    contents-are _ _ _ _ (c .before .before .header .given .0 .0) _ (c .before .before .header .given .1) (c .before .before .before .before .parse .ensures .1) (c .content-length .ensures)
 
 pub single-file-spec : {M : Type 1} → statement M
+unfolding singleOf
 single-file-spec =
     tie.close
     (tie.spec
-    parse-requires
-    enum-known-refusal
-    enum-known-header
-    single-read-requires
-    returns
-    returns-2)
+    (λ c κs. search needs)
+    (λ c. search needs)
+    (λ c. search needs)
+    (λ c κs. search needs)
+    (λ c. omega (arith, length-take (c .content-length .result) (c .before .before .before .before .parse .last .1 .0), ap length (content-is c), c .content-length .ensures))
+    (λ c. rw (content-is (c .before)) (c .before .content-length .ensures))
+    (λ c κs. rw (content-is (c .before)) (file-read _ _ (read-is (c .before .before)) .laid-out .rules))
+    (λ c. rw (sym (c .before .before .before .parse .ensures .0) ∙ c .before .refusal .given .1))
+    (λ c. rw (read-is (c .before .before .before)) (rw (content-is (c .before .before)) at (c .single-read .ensures))))

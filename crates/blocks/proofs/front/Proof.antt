@@ -1,10 +1,10 @@
--- `batch::front` meets its contract: it stays within the bytes.
+-- `blocks::front` meets its contract: it stays within the bytes.
 -- Assumes nothing.
 use borrow.Author.Needs.{needs}
 use mathlib.Core.Path.{sym}
 use lib.Seq.{length-take-le, take-all}
-use Rattle.batch.proofs.front.Statement.{statement}
-use Rattle.batch.proofs.front.Tie as tie
+use Rattle.blocks.proofs.front.Statement.{statement}
+use Rattle.blocks.proofs.front.Tie as tie
 
 slice-aggregate-result : tie.Need-slice-aggregate-result
 slice-aggregate-result c = sym (length-take-le _ _ (search needs))
