@@ -1,5 +1,5 @@
 -- What reading an automaton's file gives (document 01, the walker file): its header, lines 1 to 9 of the table of refusals, and the order.
--- Interface: `headerOf`, `countsCheck`, `beyond`, `setsCheck`, `layoutCheck`, `LaidOut`, `bodyCheck`, `parsed`, `contentsAfter`, `readAutomaton`.
+-- Interface: `headerOf`, `countsCheck`, `beyond`, `setsCheck`, `layoutCheck`, `LaidOut`, `WithinLimits`, `bodyCheck`, `parsed`, `contentsAfter`, `readAutomaton`.
 use Prim.Native.Nat.{ℕ, _+_, _*_, _/_, _^_, _≤_}
 use mathlib.Core.Bool.{Bool, not}
 use mathlib.Core.List.{List, _++_}
@@ -65,6 +65,10 @@ pub record LaidOut (h : Header) (p : List ℕ) : Type 0 where
   pub symbols : h .symbols ≤ 32
   pub few : h .rules ≤ 512
   pub rules : payload h ≤ length p
+
+-- counts that line 4 passes are within these
+abbrev pub WithinLimits : Header → Type 0
+WithinLimits h = (h .states ≤ 24) × (h .symbols ≤ 32)
 
 -- 6 to 9
 unfoldable pub bodyCheck : Header → List ℕ → Check

@@ -13,18 +13,20 @@ use Rattle.model.specs.declared.Side.{Side}
 use Rattle.model.specs.declared.Place.{Place}
 use Rattle.model.specs.declared.Move.{Move}
 use Rattle.relation.specs.Rows.{noPairs, joined, composed, closed, meeting}
-use Rattle.algorithms.specs.Automaton.{Automaton, Proper}
+use Rattle.algorithms.specs.Automaton.{Automaton, Proper, ranked, alphabetOf}
 use Rattle.algorithms.specs.Overloops.{acceptedBy, moves, nodeSimple, nodeLoops, upClosure, leafOverloops, nodeOverloops}
 use Rattle.algorithms.proofs.OverloopLaws.{row-moves, leaf-as-node, within-leafOverloops}
 use Rattle.blocks.specs.Blocks.{content}
 use Rattle.refusal.specs.declared.Refusal.{Refusal}
-use Rattle.automaton.specs.File.{parsed}
+use Rattle.automaton.specs.File.{WithinLimits, parsed}
 use Rattle.automaton.specs.declared.Header.{Header}
 use Rattle.automaton.specs.declared.file.Parsed.{Parsed}
+use Rattle.automaton.proofs.Passed.{file-read}
 use Rattle.transitions.specs.Transitions.{automatonOf}
 use Rattle.transitions.specs.Compiled.{cellOf, Compiled, Loaded}
 use Rattle.transitions.proofs.Laws.{place-small, move-small}
-use Rattle.overloops.specs.Prepared.{PreparedOf, Prepared, PreparedAfter}
+use Rattle.transitions.proofs.Meaning.{file-proper}
+use Rattle.overloops.specs.Ready.{Headed, Ready, PreparedAfter}
 use Rattle.overloops.specs.Tables.{sideNumber, leafCell, LeavesBelow, Leaves, PutFirst, Put}
 
 -- ---- 24 rows from a place on
@@ -133,23 +135,33 @@ module _ (A : Automaton) (n : ℕ) (t t₁ t₂ : List ℕ) where
           let k : leafCell σ s + p < leafCell n Side.Left = omega (arith, side-small s) in
           right .outside (leafCell σ s + p) (inl (omega arith)) ∙ left .outside (leafCell σ s + p) (inl k) ∙ old .rows σ s p (omega arith) h
 
--- what loading and preparing leave, by the answer
+-- ---- what loading and preparing leave, by the answer
+
 pub loaded-read : (r : Parsed) (h : Header) (s before after : List ℕ) → r ≡ Parsed.Read h → Loaded r s before after → Compiled (automatonOf h (content s)) after
 loaded-read r h s before after e l = rw e at l
 
 pub loaded-refused : (r : Parsed) (x : Refusal) (s before after : List ℕ) → r ≡ Parsed.Refused x → Loaded r s before after → after ≡ before
 loaded-refused r x s before after e l = rw e at l
 
-abbrev pub prepared-read : (r : Parsed) (h : Header) (s t l t′ l′ : List ℕ) → r ≡ Parsed.Read h → r ≡ parsed s → PreparedAfter r s t l t′ l′ → Prepared h t′ l′
-prepared-read r h s t l t′ l′ e f a =
-    let b : PreparedAfter (Parsed.Read h) s t l t′ l′ = rw e at a in
-    record { file = s; read = sym f ∙ e; compiled = b .0; leaves-are = b .1 }
+-- the automaton of a file that reads is that of its header and of the table compiled from it
+pub file-headed : (s : List ℕ) (h : Header) (t : List ℕ) → parsed s ≡ Parsed.Read h → Compiled (automatonOf h (content s)) t
+    → Headed (automatonOf h (content s)) h t
+file-headed s h t e c =
+    record {
+      tabled = record { compiled = c; states = refl; proper = file-proper s h e };
+      symbols = refl;
+      branches = refl;
+      initial = refl;
+      accepting = refl;
+    }
 
--- the same of the file itself; and the tables of a file are those of one
-abbrev pub prepared-of : (r : Parsed) (h : Header) (s t l t′ l′ : List ℕ) → r ≡ Parsed.Read h → r ≡ parsed s → PreparedAfter r s t l t′ l′ → PreparedOf s h t′ l′
-prepared-of r h s t l t′ l′ e f a =
-    let b : PreparedAfter (Parsed.Read h) s t l t′ l′ = rw e at a in
-    record { read = sym f ∙ e; compiled = b .0; leaves-are = b .1 }
+pub file-limits : (s : List ℕ) (h : Header) → parsed s ≡ Parsed.Read h → WithinLimits h
+file-limits s h e = let read = file-read s h e in (read .laid-out .states, read .laid-out .symbols)
 
-abbrev pub prepared-by : (s : List ℕ) (h : Header) (t l : List ℕ) → PreparedOf s h t l → Prepared h t l
-prepared-by s h t l p = record { file = s; read = p .read; compiled = p .compiled; leaves-are = p .leaves-are }
+pub prepared-ready : (r : Parsed) (h : Header) (s t l t′ l′ : List ℕ) → r ≡ Parsed.Read h → PreparedAfter r s t l t′ l′
+    → WithinLimits h × Ready (automatonOf h (content s)) h t′ l′
+prepared-ready r h s t l t′ l′ e a = rw e at a
+
+-- the symbols of an automaton are those of its header
+pub headed-symbols : (A : Automaton) (h : Header) (t : List ℕ) → Headed A h t → alphabetOf A ≡ ranked (h .symbols) (h .branches)
+headed-symbols A h t k = rw (k .symbols, k .branches)

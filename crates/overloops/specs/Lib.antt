@@ -1,3 +1,3 @@
 -- What lent tables hold of an automaton, and what preparing a file leaves in them.
 pub mod Tables
-pub mod Prepared
+pub mod Ready

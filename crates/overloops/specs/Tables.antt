@@ -1,5 +1,5 @@
 -- What lent tables hold of an automaton: the compiled transitions, and the overloops of the leaves, 24 rows for each symbol and side.
--- Interface: `Of`, `Tabled`, `sideNumber`, `leafCell`, `Leaves`, `PutFirst`, `Put`.
+-- Interface: `Tabled`, `sideNumber`, `leafCell`, `Leaves`, `PutFirst`, `Put`.
 use Prim.Native.Nat.{ℕ, _+_, _*_, _<_, _≤_}
 use mathlib.Core.Path.{_≡_}
 use mathlib.Core.Logic.{_⊎_}
@@ -9,13 +9,7 @@ use Rattle.model.specs.declared.Side.{Side}
 use Rattle.model.specs.declared.Place.{Place}
 use Rattle.algorithms.specs.Automaton.{Automaton, Proper}
 use Rattle.algorithms.specs.Overloops.{leafOverloops}
-use Rattle.automaton.specs.declared.Header.{Header}
 use Rattle.transitions.specs.Compiled.{Compiled}
-
--- the automaton has the header's sets
-pub record Of (A : Automaton) (h : Header) : Type 0 where
-  pub initial : A .initial ≡ h .initial
-  pub accepting : A .accepting ≡ h .accepting
 
 -- the table is that of an automaton with n states
 pub record Tabled (A : Automaton) (n : ℕ) (table : List ℕ) : Type 0 where

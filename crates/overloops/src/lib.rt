@@ -1,4 +1,5 @@
 // The overloops of nodes, formed from the compiled transitions. One function forms the loops of a node, and everything else goes through it.
+use automaton::Contents;
 use automaton::file::Parsed;
 use model::Move;
 use model::Place;
@@ -6,15 +7,19 @@ use model::Side;
 use model::State;
 use model::Symbol;
 use relation::Relation;
+use transitions::TransitionTable;
 ghost use mathlib.Core.Path.{_≡_};
 ghost use Prim.Native.Nat.{_+_, _<_, _≤_};
 ghost use lib.ListN.{length, take, drop};
 ghost use Rattle.algorithms.specs.Automaton.{Automaton, Proper};
 ghost use Rattle.algorithms.specs.Overloops as spec;
 ghost use Rattle.transitions.specs.Compiled.{Compiled};
-ghost use Rattle.automaton.specs.File.{parsed};
+ghost use Rattle.automaton.specs.File.{parsed, contentsAfter};
 ghost use Rattle.overloops.specs.Tables.{Tabled, sideNumber, leafCell, Leaves, Put};
-ghost use Rattle.overloops.specs.Prepared.{PreparedAfter};
+ghost use Rattle.overloops.specs.Ready.{PreparedAfter};
+
+// The overloops of each of 32 leaf symbols on each side: 24 rows each.
+pub type LeafTable = [u32; 1536];
 
 // The 24 rows that stand in a table from a place on.
 pub fn rows_at(table: &[u32], at: usize) -> Relation
@@ -29,8 +34,8 @@ pub fn rows_at(table: &[u32], at: usize) -> Relation
 }
 
 // The pairs of the transitions with a symbol, a place and a move.
-fn moves(table: &[u32], symbol: Symbol, place: Place, step: Move) -> Relation
-    requires { ⌜ (length (now table) ≡ 9216) × (symbol .0 < 32) ⌝ }
+fn moves(table: &TransitionTable, symbol: Symbol, place: Place, step: Move) -> Relation
+    requires { ⌜ symbol .0 < 32 ⌝ }
     ensures { λ r. ⌜ ((A : Automaton) → Compiled A (now (table .entry)) → r .rows ≡ spec.moves A (symbol .0) place step) ⌝ }
 {
     rows_at(table, transitions::cell(symbol, place, step, State(0)))
@@ -48,13 +53,13 @@ fn moves_in(table: &[u32], symbol: Symbol, place: Place, step: Move) -> &[u32]
 
 // The table that is given at a node at a place, before it is closed, from the rows of its parts' overloops.
 fn simple_in(
-    table: &[u32],
+    table: &TransitionTable,
     symbol: Symbol,
     place: Place,
     left: &[u32; 24],
     right: &[u32; 24],
 ) -> Relation
-    requires { ⌜ (length (now table) ≡ 9216) × (symbol .0 < 32) ⌝ }
+    requires { ⌜ symbol .0 < 32 ⌝ }
     ensures { λ r. ⌜ ((A : Automaton) → Compiled A (now (table .entry))
         → r .rows ≡ spec.nodeSimple A place (symbol .0) (now (left .entry)) (now (right .entry))) ⌝ }
 {
@@ -68,14 +73,14 @@ fn simple_in(
 
 // The loops of a node at a place: that table, closed.
 fn loops_in(
-    table: &[u32],
+    table: &TransitionTable,
     states: usize,
     symbol: Symbol,
     place: Place,
     left: &[u32; 24],
     right: &[u32; 24],
 ) -> Relation
-    requires { ⌜ (length (now table) ≡ 9216) × (states ≤ 24) × (symbol .0 < 32) ⌝ }
+    requires { ⌜ (states ≤ 24) × (symbol .0 < 32) ⌝ }
     ensures { λ r. ⌜ ((A : Automaton) → Tabled A states (now (table .entry))
         → r .rows ≡ spec.nodeLoops A place (symbol .0) (now (left .entry)) (now (right .entry))) ⌝ }
 {
@@ -84,14 +89,14 @@ fn loops_in(
 
 // The overloops of a node as a part of its parent, from the rows of its own parts'.
 pub fn overloops_in(
-    table: &[u32],
+    table: &TransitionTable,
     states: usize,
     symbol: Symbol,
     side: Side,
     left: &[u32; 24],
     right: &[u32; 24],
 ) -> Relation
-    requires { ⌜ (length (now table) ≡ 9216) × (states ≤ 24) × (symbol .0 < 32) ⌝ }
+    requires { ⌜ (states ≤ 24) × (symbol .0 < 32) ⌝ }
     ensures { λ r. ⌜ ((A : Automaton) → Tabled A states (now (table .entry))
         → r .rows ≡ spec.nodeOverloops A (Place.Child side) (symbol .0) (now (left .entry)) (now (right .entry))) ⌝ }
 {
@@ -106,14 +111,14 @@ pub fn overloops_in(
 
 // The loops of a node at a place, from the overloops of its parts.
 pub fn node_loops(
-    table: &[u32],
+    table: &TransitionTable,
     states: usize,
     symbol: Symbol,
     place: Place,
     left: Relation,
     right: Relation,
 ) -> Relation
-    requires { ⌜ (length (now table) ≡ 9216) × (states ≤ 24) × (symbol .0 < 32) ⌝ }
+    requires { ⌜ (states ≤ 24) × (symbol .0 < 32) ⌝ }
     ensures { λ r. ⌜ ((A : Automaton) → Tabled A states (now (table .entry))
         → r .rows ≡ spec.nodeLoops A place (symbol .0) (left .rows) (right .rows)) ⌝ }
 {
@@ -122,14 +127,14 @@ pub fn node_loops(
 
 // The overloops of a node as a part of its parent, from those of its own parts.
 pub fn node_overloops(
-    table: &[u32],
+    table: &TransitionTable,
     states: usize,
     symbol: Symbol,
     side: Side,
     left: Relation,
     right: Relation,
 ) -> Relation
-    requires { ⌜ (length (now table) ≡ 9216) × (states ≤ 24) × (symbol .0 < 32) ⌝ }
+    requires { ⌜ (states ≤ 24) × (symbol .0 < 32) ⌝ }
     ensures { λ r. ⌜ ((A : Automaton) → Tabled A states (now (table .entry))
         → r .rows ≡ spec.nodeOverloops A (Place.Child side) (symbol .0) (left .rows) (right .rows)) ⌝ }
 {
@@ -137,8 +142,8 @@ pub fn node_overloops(
 }
 
 // The loops of a leaf at a place: a node whose parts have no overloops.
-pub fn leaf_loops(table: &[u32], states: usize, symbol: Symbol, place: Place) -> Relation
-    requires { ⌜ (length (now table) ≡ 9216) × (states ≤ 24) × (symbol .0 < 32) ⌝ }
+pub fn leaf_loops(table: &TransitionTable, states: usize, symbol: Symbol, place: Place) -> Relation
+    requires { ⌜ (states ≤ 24) × (symbol .0 < 32) ⌝ }
     ensures { λ r. ⌜ ((A : Automaton) → Tabled A states (now (table .entry)) → r .rows ≡ spec.leafLoops A place (symbol .0)) ⌝ }
 {
     node_loops(
@@ -168,8 +173,8 @@ fn leaf_cell(symbol: Symbol, side: Side) -> usize
 }
 
 // The overloops of a leaf as a part, from the table of leaves.
-pub fn leaf_overloops(leaves: &[u32], symbol: Symbol, side: Side) -> Relation
-    requires { ⌜ (length (now leaves) ≡ 1536) × (symbol .0 < 32) ⌝ }
+pub fn leaf_overloops(leaves: &LeafTable, symbol: Symbol, side: Side) -> Relation
+    requires { ⌜ symbol .0 < 32 ⌝ }
     ensures { λ r. ⌜ ((A : Automaton) → Proper A → Leaves A (now (leaves .entry)) → r .rows ≡ spec.leafOverloops A (Place.Child side) (symbol .0)) ⌝ }
 {
     rows_at(leaves, leaf_cell(symbol, side))
@@ -186,8 +191,8 @@ pub fn put_rows(table: &mut [u32], at: usize, rows: Relation)
 }
 
 // Writes the overloops of a leaf as a part into the table of leaves.
-fn put_leaf(table: &[u32], states: usize, symbol: Symbol, side: Side, leaves: &mut [u32])
-    requires { ⌜ (length (now table) ≡ 9216) × (states ≤ 24) × (symbol .0 < 32) × (length (now leaves) ≡ 1536) ⌝ }
+fn put_leaf(table: &TransitionTable, states: usize, symbol: Symbol, side: Side, leaves: &mut [u32])
+    requires { ⌜ (states ≤ 24) × (symbol .0 < 32) × (length (now leaves) ≡ 1536) ⌝ }
     ensures { λ _. ⌜ ((A : Automaton) → Tabled A states (now (table .entry))
         → Put (leafCell (symbol .0) side) (spec.leafOverloops A (Place.Child side) (symbol .0)) (now (leaves .entry)) (now (leaves .exit))) ⌝ }
 {
@@ -197,8 +202,8 @@ fn put_leaf(table: &[u32], states: usize, symbol: Symbol, side: Side, leaves: &m
 }
 
 // Fills the table of leaves.
-fn fill_leaves(table: &[u32], states: usize, leaves: &mut [u32])
-    requires { ⌜ (length (now table) ≡ 9216) × (states ≤ 24) × (length (now leaves) ≡ 1536) ⌝ }
+fn fill_leaves(table: &TransitionTable, states: usize, leaves: &mut [u32])
+    requires { ⌜ (states ≤ 24) × (length (now leaves) ≡ 1536) ⌝ }
     ensures { λ _. ⌜ ((A : Automaton) → Tabled A states (now (table .entry)) → Leaves A (now (leaves .exit))) ⌝ }
 {
     for symbol in 0..32u8 {
@@ -207,12 +212,18 @@ fn fill_leaves(table: &[u32], states: usize, leaves: &mut [u32])
     }
 }
 
-// Reads an automaton's file and prepares its tables. A refused file leaves both as they were.
-pub fn prepare(file: &[u8], table: &mut [u32; 9216], leaves: &mut [u32; 1536]) -> Parsed
-    ensures { λ r. ⌜ (r ≡ parsed (now (file .entry)))
+// Reads an automaton's file and prepares its tables; its joined contents go to the front of the buffer. A refused file leaves all three as they
+// were.
+pub fn prepare(
+    file: &[u8],
+    contents: &mut Contents,
+    table: &mut TransitionTable,
+    leaves: &mut LeafTable,
+) -> Parsed
+    ensures { λ r. ⌜ (r ≡ parsed (now (file .entry))) × (now (contents .exit) ≡ contentsAfter r (now (file .entry)) (now (contents .entry)))
         × PreparedAfter r (now (file .entry)) (now (table .entry)) (now (leaves .entry)) (now (table .exit)) (now (leaves .exit)) ⌝ }
 {
-    match transitions::load(file, table) {
+    match transitions::load(file, contents, table) {
         Parsed::Refused(refusal) => Parsed::Refused(refusal),
         Parsed::Read(header) => {
             fill_leaves(table, header.states as usize, leaves);

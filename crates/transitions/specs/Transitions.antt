@@ -1,6 +1,6 @@
 -- The automaton of a file: its counts and sets, and the transitions that its rules allow (document 01, the walker file; steps, runs, crossings:
 -- "A rule applies at a node of its symbol, in its state, at its place").
--- Interface: `placeNumber`, `moveNumber`, `automatonOf`.
+-- Interface: `placeNumber`, `moveNumber`, `automatonOf`, `byAutomaton`.
 use Prim.Native.Nat.{ℕ, zero, suc, _^_, _<_}
 use mathlib.Core.Path.{_≡_}
 use mathlib.Core.Bool.{Bool, true, false, _&&_}
@@ -11,7 +11,9 @@ use Rattle.model.specs.declared.Side.{Side}
 use Rattle.model.specs.declared.Place.{Place}
 use Rattle.model.specs.declared.Move.{Move}
 use Rattle.algorithms.specs.Automaton.{Automaton}
+use Rattle.refusal.specs.declared.Refusal.{Refusal}
 use Rattle.automaton.specs.Rules.{ruleAt}
+use Rattle.automaton.specs.File.{readAutomaton}
 use Rattle.automaton.specs.declared.Header.{Header}
 use Rattle.automaton.specs.declared.Rule.{Rule}
 use Rattle.automaton.specs.declared.Scope.{Scope}
@@ -82,3 +84,8 @@ automatonOf h content =
       branches = h .branches;
       next = nextStates h content (h .rules);
     }
+
+-- what is answered by the automaton of a file, or to its refusal: judging, survey, quick check and tally
+module _ {ℓ} {X : Type ℓ} where
+  abbrev pub byAutomaton : (file : List ℕ) → (refused : Refusal → X) → (read : Automaton → X) → X
+  byAutomaton file refused read = readAutomaton file refused (λ h contents. read (automatonOf h contents))

@@ -22,7 +22,7 @@ fill-leaves-spec =
     (tie.spec
     Inv-loop
     μ-loop
-    (λ c. (search needs, c .before .before .pre .2, λ A k. no-leaves A _ (c .before .before .pre .2)))
+    (λ c. (search needs, c .before .pre .1, λ A k. no-leaves A _ (c .before .pre .1)))
     (λ c κs. search needs)
     (λ c κs. search needs)
     (λ c. search needs)

@@ -13,4 +13,4 @@ leaf-loops-spec =
     (λ c κs. search needs)
     (λ c κs. search needs)
     (λ c κs. search needs)
-    (λ c. λ A k. rw (c .before .before .empty .ensures, c .before .empty2 .ensures) at (c .node-loops .ensures A k) ∙ sym (leaf-as-node A (k .proper) (c .before .before .before .before .args .place) (c .before .before .before .before .args .symbol .0))))
+    (λ c. λ A k. rw (c .before .before .empty .ensures, c .before .empty2 .ensures) at (c .node-loops .ensures A k) ∙ sym (leaf-as-node A (k .proper) (c .before .before .before .args .place) (c .before .before .before .args .symbol .0))))

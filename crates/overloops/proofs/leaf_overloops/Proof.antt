@@ -12,4 +12,4 @@ leaf-overloops-spec =
     (tie.spec
     (λ c κs. search needs)
     (λ c κs. search needs)
-    (λ c. λ A P k. rw (c .before .leaf-cell .ensures .0) at (c .rows-at .ensures) ∙ leaf-are A P _ _ _ (c .before .before .before .pre .1) k))
+    (λ c. λ A P k. rw (c .before .leaf-cell .ensures .0) at (c .rows-at .ensures) ∙ leaf-are A P _ _ _ (c .before .before .before .pre) k))

@@ -12,4 +12,4 @@ moves-spec =
     (tie.spec
     (λ c κs. search needs)
     (λ c κs. search needs)
-    (λ c. λ A k. rw (c .before .cell .ensures .0) at (c .rows-at .ensures) ∙ moves-are A _ _ _ _ (c .before .before .before .pre .1) k))
+    (λ c. λ A k. rw (c .before .cell .ensures .0) at (c .rows-at .ensures) ∙ moves-are A _ _ _ _ (c .before .before .before .pre) k))

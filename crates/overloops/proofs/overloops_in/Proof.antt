@@ -12,4 +12,4 @@ overloops-in-spec =
     (λ c κs. search needs)
     (λ c κs. search needs)
     (λ c κs. search needs)
-    (λ c. λ A k. overloops-formed A _ _ _ _ (c .before .before .loops-in .ensures A k) (c .before .moves-in .ensures .1 A (k .compiled)) (c .follow .ensures)))
+    (λ c. λ A k. overloops-formed A _ _ _ _ (c .before .before .before .loops-in .ensures A k) (c .before .moves-in .ensures .1 A (k .compiled)) (c .follow .ensures)))

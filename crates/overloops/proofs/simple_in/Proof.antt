@@ -15,7 +15,7 @@ simple-in-spec =
     (λ c κs. search needs)
     (λ c κs. search needs)
     (λ c. λ A m.
-    let a = c .before .before .before .before .before .before .before .before .args in
-    simple-formed A _ _ (a .left .now) (a .right .now) (c .before .before .before .before .before .before .moves .ensures A m)
-    (c .before .before .before .before .before .moves-in .ensures .1 A m) (c .before .before .before .join-follow .ensures)
+    let a = c .before .before .before .before .before .before .before .before .before .args in
+    simple-formed A _ _ (a .left .now) (a .right .now) (c .before .before .before .before .before .before .before .before .moves .ensures A m)
+    (c .before .before .before .before .before .before .moves-in .ensures .1 A m) (c .before .before .before .before .join-follow .ensures)
     (c .before .before .moves-in2 .ensures .1 A m) (c .join-follow2 .ensures)))

@@ -92,8 +92,7 @@ parse-spec =
     (λ c. search needs)
     (λ c κs. rw (content-is (c .before .before .before .before .before .before .before .before .before .before), c .copy-arg .given .0 .1) (content-most (c .before .before .before .before .before .before .before .before .before .before)))
     (λ c.
-    let told = c .before .before .before .before .before in
-    (
+    let told = c .before .before .before .before .before in (
       rw (file-is (told .before .before .before .before .before .before .before .before), layout-passes told, sym (body-is (c .before .before .before .before)) ∙ c .before .before .enum-told3 .given .1)
           (ap Parsed.Read (header-is (told .before .before .before))),
       rw (content-is (c .before .before .before .before .before .before .before .before .before .before .before), content-all (c .before .before .before .before .before .before .before .before .before .before .before)) at (c .copy .ensures .1),
