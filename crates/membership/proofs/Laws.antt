@@ -12,13 +12,19 @@ use Rattle.model.specs.declared.Place.{Place}
 use Rattle.algorithms.specs.Automaton.{Automaton}
 use Rattle.algorithms.specs.Overloops.{loops, accepts?}
 use Rattle.model.specs.declared.Signature.{Signature}
+use Rattle.refusal.specs.declared.Refusal.{Refusal}
+use Rattle.automaton.specs.declared.Header.{Header}
+use Rattle.overloops.specs.Ready.{Headed}
 use Rattle.overloops.proofs.Laws.{accepted-by}
 use Rattle.tree.specs.Preorder.{Writes, Below}
 use Rattle.blocks.specs.Blocks.{content}
-use Rattle.tree.specs.File.{nodesOf, nodesAfter}
+use Rattle.tree.specs.File.{nodesOf, readTree, nodesAfter}
+use Rattle.tree.specs.Nodes.{treeOf}
 use Rattle.tree.proofs.Reading.{TreeRead, nodes-front}
 use Rattle.tree.proofs.Signatures.{shaped-over}
 use Rattle.tree.specs.declared.file.ParsedTree.{ParsedTree}
+use Rattle.membership.specs.Judged.{signatureOf, acceptedIf, judgedBy}
+use Rattle.membership.specs.declared.Answer.{Answer}
 
 pub accepts-by : (A : Automaton) (t : Tree) (initial final : ℕ) (rows : List ℕ) (b : Bool) → A .initial ≡ initial → A .accepting ≡ final
     → rows ≡ loops A Place.Root t → b ≡ meeting rows initial final → b ≡ accepts? A t
@@ -39,3 +45,21 @@ written-below sg s t l w = below-32 (sg .symbols) s l (rw (w .text) (shaped-over
 pub front-is : (sg : Signature) (s : List ℕ) (k : ℕ) (buffer after : List ℕ) (r : ParsedTree) → r ≡ ParsedTree.Nodes k → after ≡ nodesAfter r s buffer
     → TreeRead sg s k → take k after ≡ nodesOf k (content s)
 front-is sg s k buffer after r e f t = rw (f, e) (nodes-front sg s k buffer t)
+
+-- ---- the answer by an automaton, where its header's signature is read against
+
+abbrev signatureIn : Header → Signature
+signatureIn h = record { symbols = h .symbols; branches = h .branches }
+
+module _ (A : Automaton) (h : Header) (t : List ℕ) (k : Headed A h t) (s : List ℕ) where
+  read-by : (r : ParsedTree) → readTree (signatureIn h) s ≡ r → readTree (signatureOf A) s ≡ r
+  read-by r e = rw (k .symbols, k .branches) e
+
+  pub judged-refused : (x : Refusal) → readTree (signatureIn h) s ≡ ParsedTree.Refused x → Answer.Refused x ≡ judgedBy A s
+  unfolding judgedBy
+  judged-refused x e = rw (read-by _ e)
+
+  pub judged-nodes : (n : ℕ) (b : Bool) → readTree (signatureIn h) s ≡ ParsedTree.Nodes n → b ≡ accepts? A (treeOf (h .branches) (nodesOf n (content s)))
+      → acceptedIf b ≡ judgedBy A s
+  unfolding judgedBy
+  judged-nodes n b e f = rw (read-by _ e, f, k .branches)

@@ -38,14 +38,14 @@ pub judged-right : (w s : List ℕ) → Demand2 w s (judged w s)
 unfolding judged judgedBy
 judged-right w s h k read letter =
     let A = automatonOf h (content w) in
-    let known = tree-read (signatureOf h) s k letter in
+    let known = tree-read (signatureOf A) s k letter in
     let t = treeOf (h .branches) (nodesOf k (content s)) in
     let run = demand-2 A (file-proper w h read) t in
     rw (read, letter)
     (record {
       tree = t;
       writes = known .tree;
-      one = λ u written. writes-one (signatureOf h) _ u t written (known .tree);
+      one = λ u written. writes-one (signatureOf A) _ u t written (known .tree);
       accepted = told-accepted (accepts? A t) run;
       other = told-other (accepts? A t) run;
       no-refusal = told-not-refused (accepts? A t);

@@ -8,17 +8,15 @@ use Rattle.model.specs.declared.Signature.{Signature}
 use Rattle.algorithms.specs.Automaton.{Automaton}
 use Rattle.algorithms.specs.Overloops.{accepts?}
 use Rattle.blocks.specs.Blocks.{content}
-use Rattle.automaton.specs.File.{readAutomaton}
-use Rattle.automaton.specs.declared.Header.{Header}
-use Rattle.transitions.specs.Transitions.{automatonOf}
+use Rattle.transitions.specs.Transitions.{byAutomaton}
 use Rattle.tree.specs.File.{nodesOf, readTree}
 use Rattle.tree.specs.Nodes.{treeOf}
 use Rattle.tree.specs.declared.file.ParsedTree.{ParsedTree}
 use Rattle.membership.specs.declared.Answer.{Answer}
 
 -- the symbols of an automaton, against which a tree is read
-abbrev pub signatureOf : Header → Signature
-signatureOf h = record { symbols = h .symbols; branches = h .branches }
+abbrev pub signatureOf : Automaton → Signature
+signatureOf A = record { symbols = A .symbols; branches = A .branches }
 
 abbrev pub acceptedIf : Bool → Answer
 acceptedIf true = Answer.Accepted
@@ -29,10 +27,10 @@ abbrev pub answerOf : Automaton → ParsedTree → (s : List ℕ) → Answer
 answerOf A (ParsedTree.Nodes k) s = acceptedIf (accepts? A (treeOf (A .branches) (nodesOf k (content s))))
 answerOf A (ParsedTree.Refused r) s = Answer.Refused r
 
--- of a tree's file s, by the automaton of a header and the joined contents p
-unfoldable pub judgedBy : Header → (p s : List ℕ) → Answer
-judgedBy h p s = answerOf (automatonOf h p) (readTree (signatureOf h) s) s
+-- of a tree's file s, by an automaton
+unfoldable pub judgedBy : Automaton → (s : List ℕ) → Answer
+judgedBy A s = answerOf A (readTree (signatureOf A) s) s
 
 -- of an automaton's file w and a tree's file s
 unfoldable pub judged : (w s : List ℕ) → Answer
-judged w s = readAutomaton w Answer.Refused (λ h p. judgedBy h p s)
+judged w s = byAutomaton w Answer.Refused (λ A. judgedBy A s)

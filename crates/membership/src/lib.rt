@@ -6,12 +6,14 @@ use model::Place;
 use model::Side;
 use model::Signature;
 use model::Symbol;
+use overloops::LeafTable;
 use overloops::leaf_loops;
 use overloops::leaf_overloops;
 use overloops::node_loops;
 use overloops::overloops_in;
 use refusal::Refusal;
 use relation::Relation;
+use transitions::TransitionTable;
 use tree::file::ParsedTree;
 ghost use mathlib.Core.Path.{_≡_};
 ghost use Prim.Native.Nat.{ℕ, _+_, _<_, _≤_};
@@ -19,10 +21,10 @@ ghost use lib.ListN.{length, getD};
 ghost use Rattle.model.specs.Trees.{Tree, size};
 ghost use Rattle.algorithms.specs.Automaton.{Automaton};
 ghost use Rattle.algorithms.specs.Overloops.{overloops, loops, accepts?};
-ghost use Rattle.blocks.specs.Blocks.{content};
 ghost use Rattle.tree.specs.Preorder.{Stands};
-ghost use Rattle.overloops.specs.Tables.{Of, Tabled, Leaves};
-ghost use Rattle.overloops.specs.Prepared.{Prepared};
+ghost use Rattle.automaton.specs.File.{WithinLimits};
+ghost use Rattle.overloops.specs.Tables.{Tabled, Leaves};
+ghost use Rattle.overloops.specs.Ready.{Ready};
 ghost use Rattle.membership.specs.Judged.{judgedBy, judged};
 ghost use Rattle.membership.specs.Demand2.{Demand2};
 
@@ -44,12 +46,12 @@ fn part_at(
     symbols: &[u8],
     branches: u32,
     states: usize,
-    table: &[u32],
-    leaves: &[u32],
+    table: &TransitionTable,
+    leaves: &LeafTable,
     at: usize,
     side: Side,
 ) -> Part
-    requires { ⌜ (length (now table) ≡ 9216) × (length (now leaves) ≡ 1536) × (states ≤ 24) × ((i : ℕ) → getD (now symbols) i 0 < 32) ⌝ }
+    requires { ⌜ (states ≤ 24) × ((i : ℕ) → getD (now symbols) i 0 < 32) ⌝ }
     ensures { λ r. ⌜ (at ≤ r .next) × ((A : Automaton) → Tabled A states (now (table .entry)) → Leaves A (now (leaves .entry))
         → (t : Tree) → Stands branches (now (symbols .entry)) at t
         → (r .overloops .rows ≡ overloops A (Place.Child side) t) × (r .next ≡ at + size t)) ⌝ }
@@ -90,10 +92,10 @@ fn root_loops(
     symbols: &[u8],
     branches: u32,
     states: usize,
-    table: &[u32],
-    leaves: &[u32],
+    table: &TransitionTable,
+    leaves: &LeafTable,
 ) -> Relation
-    requires { ⌜ (0 < length (now symbols)) × (length (now table) ≡ 9216) × (length (now leaves) ≡ 1536) × (states ≤ 24)
+    requires { ⌜ (0 < length (now symbols)) × (states ≤ 24)
         × ((i : ℕ) → getD (now symbols) i 0 < 32) ⌝ }
     ensures { λ r. ⌜ ((A : Automaton) → Tabled A states (now (table .entry)) → Leaves A (now (leaves .entry))
         → (t : Tree) → Stands branches (now (symbols .entry)) 0 t → r .rows ≡ loops A Place.Root t) ⌝ }
@@ -119,10 +121,10 @@ fn root_loops(
 }
 
 // Whether the automaton accepts the tree that a node list writes.
-fn accepts(symbols: &[u8], header: Header, table: &[u32], leaves: &[u32]) -> bool
-    requires { ⌜ (0 < length (now symbols)) × (length (now table) ≡ 9216) × (length (now leaves) ≡ 1536) × (header .states ≤ 24)
+fn accepts(symbols: &[u8], header: Header, table: &TransitionTable, leaves: &LeafTable) -> bool
+    requires { ⌜ (0 < length (now symbols)) × (header .states ≤ 24)
         × ((i : ℕ) → getD (now symbols) i 0 < 32) ⌝ }
-    ensures { λ r. ⌜ ((A : Automaton) → Of A header → Tabled A (header .states) (now (table .entry)) → Leaves A (now (leaves .entry))
+    ensures { λ r. ⌜ ((A : Automaton) → Ready A header (now (table .entry)) (now (leaves .entry))
         → (t : Tree) → Stands (header .branches) (now (symbols .entry)) 0 t → r ≡ accepts? A t) ⌝ }
 {
     let states = header.states as usize;
@@ -133,10 +135,14 @@ fn accepts(symbols: &[u8], header: Header, table: &[u32], leaves: &[u32]) -> boo
 }
 
 // Judges a tree's file by an automaton that was prepared.
-pub fn judge_file(header: Header, table: &[u32], leaves: &[u32], file: &[u8]) -> Answer
-    requires { ⌜ Prepared header (now table) (now leaves) ⌝ }
-    ensures { λ r. ⌜ ((p : Prepared header (now (table .entry)) (now (leaves .entry)))
-        → r ≡ judgedBy header (content (p .file)) (now (file .entry))) ⌝ }
+pub fn judge_file(
+    header: Header,
+    table: &TransitionTable,
+    leaves: &LeafTable,
+    file: &[u8],
+) -> Answer
+    requires { ⌜ WithinLimits header ⌝ }
+    ensures { λ r. ⌜ ((A : Automaton) → Ready A header (now (table .entry)) (now (leaves .entry)) → r ≡ judgedBy A (now (file .entry))) ⌝ }
 {
     let mut nodes = [0u8; 4096];
     let signature = Signature {
@@ -160,9 +166,10 @@ pub fn judge(automaton: &[u8], tree: &[u8]) -> Answer
     ensures equals { λ r. ⌜ r ≡ judged (now (automaton .entry)) (now (tree .entry)) ⌝ }
     ensures right { λ r. ⌜ Demand2 (now (automaton .entry)) (now (tree .entry)) r ⌝ }
 {
+    let mut contents = [0u8; 3048];
     let mut table = [0u32; 9216];
     let mut leaves = [0u32; 1536];
-    match overloops::prepare(automaton, &mut table, &mut leaves) {
+    match overloops::prepare(automaton, &mut contents, &mut table, &mut leaves) {
         Parsed::Refused(refusal) => Answer::Refused(refusal),
         Parsed::Read(header) => judge_file(header, &table, &leaves, tree),
     }

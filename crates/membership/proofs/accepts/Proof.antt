@@ -12,4 +12,5 @@ accepts-spec =
     (λ c. search needs)
     (λ c κs. search needs)
     (λ c κs. search needs)
-    (λ c. λ A o k e u h. accepts-by A u _ _ _ _ (o .initial) (o .accepting) (c .before .root-loops .ensures A k e u h) (c .meets .ensures)))
+    (λ c. λ A k u h.
+    accepts-by A u _ _ _ _ (k .headed .initial) (k .headed .accepting) (c .before .root-loops .ensures A (k .headed .tabled) (k .leaves-are) u h) (c .meets .ensures)))

@@ -16,8 +16,8 @@ root-loops-spec =
     (λ c κs. search needs)
     (λ c κs. search needs)
     (λ c κs. search needs)
-    (λ c κs. let q = c .before .before .before .before .before .before .before .before .before .before .pre in (q .1, q .3, q .4 _))
-    (λ c κs. let q = c .before .before .before .before .before .before .pre in (q .1, q .3, q .4 _))
+    (λ c κs. let q = c .before .before .before .before .before .before .before .before .pre in (q .1, q .2 _))
+    (λ c κs. let q = c .before .before .before .before .pre in (q .1, q .2 _))
     (λ c. λ A k e u h.
     let parts = node-here (sym (c .before .before .before .before .before .before .is-branch .ensures) ∙ c .before .before .before .before .before .if1 .taken) h in
     let left = c .before .before .before .before .part-at .ensures .1 A k e (parts .l) (parts .left) in
