@@ -8,10 +8,9 @@ use lib.ListN.{length, take, length-append}
 use lib.Seq.{take-append-le, take-at, drop-at}
 use Rattle.refusal.specs.declared.Check.{Check}
 use Rattle.refusal.specs.declared.Refusal.{Refusal}
-use Rattle.automaton.specs.declared.Header.{Header}
+use Rattle.algorithms.specs.Automaton.{Automaton}
 use Rattle.algorithms.specs.Overloops.{accepts?}
 use Rattle.blocks.specs.Blocks.{content}
-use Rattle.transitions.specs.Transitions.{automatonOf}
 use Rattle.tree.specs.File.{nodesOf, readTree}
 use Rattle.tree.specs.Nodes.{treeOf}
 use Rattle.tree.specs.declared.file.ParsedTree.{ParsedTree}
@@ -25,29 +24,29 @@ use Rattle.batch.proofs.Lengths.{file-length}
 use Rattle.batch.proofs.Laws.{some-block, turn-none, turn-whole, batch-next}
 
 -- files of the length that their first block tells, none of which ends the batch
-pub data Whole (h : Header) (p : List ℕ) : List (List ℕ) → Type 0 where
-  none : Whole h p []
-  one : {s : List ℕ} {ss : List (List ℕ)} → length s ≡ firstLength s → endsBatch (judgedBy h p s) ≡ false → Whole h p ss → Whole h p (s ∷ ss)
+pub data Whole (A : Automaton) : List (List ℕ) → Type 0 where
+  none : Whole A []
+  one : {s : List ℕ} {ss : List (List ℕ)} → length s ≡ firstLength s → endsBatch (judgedBy A s) ≡ false → Whole A ss → Whole A (s ∷ ss)
 
 abbrev pub endToEnd : List (List ℕ) → List ℕ
 endToEnd [] = []
 endToEnd (s ∷ ss) = s ++ endToEnd ss
 
 -- the answers, each counted in turn
-abbrev pub countAll : Header → (p : List ℕ) → Tally → List (List ℕ) → Tally
-countAll h p t [] = t
-countAll h p t (s ∷ ss) = countAll h p (countedUp t (outcomeOf (judgedBy h p s)) .tally) ss
+abbrev pub countAll : Automaton → Tally → List (List ℕ) → Tally
+countAll A t [] = t
+countAll A t (s ∷ ss) = countAll A (countedUp t (outcomeOf (judgedBy A s)) .tally) ss
 
-module _ (h : Header) (p : List ℕ) where
+module _ (A : Automaton) where
   ends-not : (b : Bool) → endsBatch (acceptedIf b) ≡ false
   ends-not true = refl
   ends-not false = refl
 
   -- a file that reads is one
-  pub read-whole : (s : List ℕ) (k : ℕ) → readTree (signatureOf h) s ≡ ParsedTree.Nodes k → (length s ≡ firstLength s) × (endsBatch (judgedBy h p s) ≡ false)
+  pub read-whole : (s : List ℕ) (k : ℕ) → readTree (signatureOf A) s ≡ ParsedTree.Nodes k → (length s ≡ firstLength s) × (endsBatch (judgedBy A s) ≡ false)
   unfolding judgedBy
   read-whole s k e =
-      (file-length (signatureOf h) s k e, rw e (ends-not (accepts? (automatonOf h p) (treeOf (automatonOf h p .branches) (nodesOf k (content s))))))
+      (file-length (signatureOf A) s k e, rw e (ends-not (accepts? A (treeOf (A .branches) (nodesOf k (content s))))))
 
   module _ (s rest : List ℕ) (w : length s ≡ firstLength s) where
     same-length : firstLength (s ++ rest) ≡ firstLength s
@@ -59,25 +58,25 @@ module _ (h : Header) (p : List ℕ) where
     rest-is : restOf (s ++ rest) ≡ rest
     rest-is = drop-at s rest (firstLength (s ++ rest)) (w ∙ sym same-length)
 
-    pub turn-first : turnOf h p (s ++ rest) ≡ judgedTurn (judgedBy h p s)
+    pub turn-first : turnOf A (s ++ rest) ≡ judgedTurn (judgedBy A s)
     turn-first =
         let long : 512 ≤ length (s ++ rest) = omega (arith, length-append s rest, w, some-block (take 512 s)) in
         let room : firstLength (s ++ rest) ≤ length (s ++ rest) = omega (arith, length-append s rest, w, same-length) in
-        sym (turn-whole h p (s ++ rest) (λ z. absurd (omega arith)) room) ∙ ap (λ (l : List ℕ). judgedTurn (judgedBy h p l)) first-is
+        sym (turn-whole A (s ++ rest) (λ z. absurd (omega arith)) room) ∙ ap (λ (l : List ℕ). judgedTurn (judgedBy A l)) first-is
 
     -- a file, and then the rest
-    pub batch-file : (t : Tally) → batchOf h p t (s ++ rest) ≡ goingOn (taken t (judgedTurn (judgedBy h p s))) (batchOf h p (countedUp t (outcomeOf (judgedBy h p s)) .tally) rest)
+    pub batch-file : (t : Tally) → batchOf A t (s ++ rest) ≡ goingOn (taken t (judgedTurn (judgedBy A s))) (batchOf A (countedUp t (outcomeOf (judgedBy A s)) .tally) rest)
     unfolding nextIn
-    batch-file t = batch-next h p t (s ++ rest) ∙ rw (turn-first, rest-is) refl
+    batch-file t = batch-next A t (s ++ rest) ∙ rw (turn-first, rest-is) refl
 
   -- a full tally stays
   full-one : (t : Tally) (r : Refusal) (o : Outcome) → limitCheck t ≡ Check.Refused r → countedUp t o .tally ≡ t
   unfolding countedUp
   full-one t r o e = rw e refl
 
-  full-stays : (t : Tally) (r : Refusal) (ss : List (List ℕ)) → limitCheck t ≡ Check.Refused r → countAll h p t ss ≡ t
+  full-stays : (t : Tally) (r : Refusal) (ss : List (List ℕ)) → limitCheck t ≡ Check.Refused r → countAll A t ss ≡ t
   full-stays t r [] e = refl
-  full-stays t r (s ∷ ss) e = ap (λ (u : Tally). countAll h p u ss) (full-one t r (outcomeOf (judgedBy h p s)) e) ∙ full-stays t r ss e
+  full-stays t r (s ∷ ss) e = ap (λ (u : Tally). countAll A u ss) (full-one t r (outcomeOf (judgedBy A s)) e) ∙ full-stays t r ss e
 
   more-passed : (t : Tally) (a : Answer) (later : Tally) → limitCheck t ≡ Check.Passed → endsBatch a ≡ false → goingOn (taken t (judgedTurn a)) later ≡ later
   unfolding countedUp
@@ -87,16 +86,16 @@ module _ (h : Header) (p : List ℕ) where
   unfolding countedUp
   more-refused t r a later e = rw e refl
 
-  by-check : (t : Tally) (s : List ℕ) (ss : List (List ℕ)) (later : Tally) (c : Check) → limitCheck t ≡ c → endsBatch (judgedBy h p s) ≡ false
-      → later ≡ countAll h p t (s ∷ ss) → goingOn (taken t (judgedTurn (judgedBy h p s))) later ≡ countAll h p t (s ∷ ss)
-  by-check t s ss later Check.Passed e f g = more-passed t (judgedBy h p s) later e f ∙ g
-  by-check t s ss later (Check.Refused r) e f g = more-refused t r (judgedBy h p s) later e ∙ sym (full-stays t r (s ∷ ss) e)
+  by-check : (t : Tally) (s : List ℕ) (ss : List (List ℕ)) (later : Tally) (c : Check) → limitCheck t ≡ c → endsBatch (judgedBy A s) ≡ false
+      → later ≡ countAll A t (s ∷ ss) → goingOn (taken t (judgedTurn (judgedBy A s))) later ≡ countAll A t (s ∷ ss)
+  by-check t s ss later Check.Passed e f g = more-passed t (judgedBy A s) later e f ∙ g
+  by-check t s ss later (Check.Refused r) e f g = more-refused t r (judgedBy A s) later e ∙ sym (full-stays t r (s ∷ ss) e)
 
   -- THE FOLD: whole files end to end come to their answers, each counted in turn
-  pub batch-folds : (t : Tally) (ss : List (List ℕ)) → Whole h p ss → batchOf h p t (endToEnd ss) ≡ countAll h p t ss
+  pub batch-folds : (t : Tally) (ss : List (List ℕ)) → Whole A ss → batchOf A t (endToEnd ss) ≡ countAll A t ss
   unfolding nextIn
-  batch-folds t [] none = batch-next h p t [] ∙ rw (← turn-none h p [] refl) refl
+  batch-folds t [] none = batch-next A t [] ∙ rw (← turn-none A [] refl) refl
   batch-folds t (s ∷ ss) (one w f more) =
       batch-file s (endToEnd ss) w t
-      ∙ by-check t s ss (batchOf h p (countedUp t (outcomeOf (judgedBy h p s)) .tally) (endToEnd ss)) (limitCheck t) refl f
-      (batch-folds (countedUp t (outcomeOf (judgedBy h p s)) .tally) ss more)
+      ∙ by-check t s ss (batchOf A (countedUp t (outcomeOf (judgedBy A s)) .tally) (endToEnd ss)) (limitCheck t) refl f
+      (batch-folds (countedUp t (outcomeOf (judgedBy A s)) .tally) ss more)

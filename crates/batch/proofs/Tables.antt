@@ -13,8 +13,8 @@ use ghost.Atoms.{Atoms, sem}
 use types.Kit.{Given, ‵, _⊛_, _$_, _∵_, !, qed, move, use1, split, fsplit, fjoin, frame, done}
 use denote.RattleType.{RattleType, owns}
 use denote.Builtin.{u32}
-use denote.Ref.{RefT}
-use denote.Slice.{ShrSlice, slice-vals, shr-slice-copy}
+use denote.Array.{Array}
+use denote.Ref.{RefT, ShrRef, ptr-vals, shr-copy}
 
 -- what owns two things that can each be had twice can be had twice
 both-twice : {M : Type 1} (𝓤 : URA M) (H : Heap 𝓤) (A : Atoms 𝓤) (W : Given 𝓤 H A) (P Q : Fml)
@@ -26,14 +26,14 @@ both-twice 𝓤 H A W P Q p q =
 
 module _ (κ₀ κ₁ : Lft) (R : RattleType) where
   abbrev pub Passed : List RattleType
-  Passed = ShrSlice (named 0) κ₀ u32 ∷ ShrSlice (named 1) κ₁ u32 ∷ R ∷ []
+  Passed = ShrRef (named 0) κ₀ (Array u32 9216) ∷ ShrRef (named 1) κ₁ (Array u32 1536) ∷ R ∷ []
 
   module _ (table leaves : RefT (List ℕ)) (z : R .Denot) (vs : List Val) where
     abbrev pub passed : RefT (List ℕ) × (RefT (List ℕ) × (R .Denot × Unit {0}))
     passed = (table, (leaves, (z, tt)))
 
     abbrev pub passed-at : List Val × (List Val × (List Val × Unit {0}))
-    passed-at = (slice-vals table, (slice-vals leaves, (vs, tt)))
+    passed-at = (ptr-vals table, (ptr-vals leaves, (vs, tt)))
 
     abbrev pub Owned : Fml
     Owned = owns Passed passed passed-at
@@ -42,8 +42,8 @@ module _ (κ₀ κ₁ : Lft) (R : RattleType) where
         → ent 𝓤 (sem 𝓤 H A (R .own z vs)) (sep 𝓤 (sem 𝓤 H A (R .own z vs)) (sem 𝓤 H A (R .own z vs)))
         → ent 𝓤 (sem 𝓤 H A Owned) (sep 𝓤 (sem 𝓤 H A Owned) (sem 𝓤 H A Owned))
     owned-twice 𝓤 H A W z-twice =
-        both-twice 𝓤 H A W (ShrSlice (named 0) κ₀ u32 .own table (slice-vals table)) (owns (ShrSlice (named 1) κ₁ u32 ∷ R ∷ []) (passed .1) (passed-at .1))
-        (shr-slice-copy 𝓤 H A W (named 0) κ₀ u32 .twice table _)
-        (both-twice 𝓤 H A W (ShrSlice (named 1) κ₁ u32 .own leaves (slice-vals leaves)) (owns (R ∷ []) (passed .1 .1) (passed-at .1 .1))
-        (shr-slice-copy 𝓤 H A W (named 1) κ₁ u32 .twice leaves _)
+        both-twice 𝓤 H A W (ShrRef (named 0) κ₀ (Array u32 9216) .own table (ptr-vals table)) (owns (ShrRef (named 1) κ₁ (Array u32 1536) ∷ R ∷ []) (passed .1) (passed-at .1))
+        (shr-copy 𝓤 H A W (named 0) κ₀ (Array u32 9216) .twice table _)
+        (both-twice 𝓤 H A W (ShrRef (named 1) κ₁ (Array u32 1536) .own leaves (ptr-vals leaves)) (owns (R ∷ []) (passed .1 .1) (passed-at .1 .1))
+        (shr-copy 𝓤 H A W (named 1) κ₁ (Array u32 1536) .twice leaves _)
         (both-twice 𝓤 H A W (R .own z vs) ftrue z-twice (emp∗ 𝓤 (emp 𝓤))))

@@ -1,9 +1,8 @@
--- The machine values of a header and of a turn, and the type of a local that holds a slice of words, for the proofs by hand. Assumes nothing.
+-- The machine values of a header and of a turn, and the type of a local that holds a borrowed table of words, for the proofs by hand. Assumes nothing.
 use mathlib.Core.List.{List}
 use Prim.Native.Nat.{ℕ}
-use mir.Syntax.{Ty, tyRef, tyInt, named, imm, w32}
+use mir.Syntax.{Ty, tyRef, tyArray, tyInt, named, imm, w32}
 use mir.Val.{Val}
-use denote.Slice.{sliceTy}
 use denote.Enum.Laws as EL
 use denote.Struct.Laws as LL
 use Rattle.automaton.specs.declared.Header.{Header}
@@ -19,6 +18,6 @@ header-vals = LL.vals D.the-type D′.the-laws
 abbrev pub turn-vals : Turn → List Val
 turn-vals = EL.vals N.the-type N′.the-laws
 
--- of the function's lifetime n
-abbrev pub words : ℕ → Ty
-words n = sliceTy (tyRef (named n) imm (tyInt w32))
+-- of the function's lifetime n, and of so many words
+abbrev pub words : (n size : ℕ) → Ty
+words n size = tyRef (named n) imm (tyArray (tyInt w32) size)

@@ -1,5 +1,5 @@
 -- A batch (document 01, "Tally and report"): trees' files end to end, each counted, until the input or the batch ends. The quotations are of
--- that section. Interface: `fileBlocks`, `firstLength`, `turnOf`, `nextIn`, `batchOf`, `nothingCounted`,
+-- that section. Interface: `fileBlocks`, `firstLength`, `turnOf`, `IsFile`, `nextIn`, `batchOf`, `nothingCounted`,
 -- `talliedOf`.
 use mathlib.Core.Bool.{Bool, true, false, not, cond, _&&_}
 use mathlib.Core.List.{List}
@@ -8,8 +8,8 @@ use lib.ListN.{length, getD, take, drop}
 use lib.Dec.{eqb, ltb, leb}
 use Rattle.refusal.specs.Lines.{blocksNeeded}
 use Rattle.refusal.specs.declared.Check.{Check}
-use Rattle.automaton.specs.File.{readAutomaton}
-use Rattle.automaton.specs.declared.Header.{Header}
+use Rattle.transitions.specs.Transitions.{byAutomaton}
+use Rattle.algorithms.specs.Automaton.{Automaton}
 use Rattle.membership.specs.Judged.{judgedBy}
 use Rattle.membership.specs.declared.Answer.{Answer}
 use Rattle.tally.specs.Tally.{countedUp}
@@ -63,9 +63,14 @@ turnBy true stops a = Turn.End
 turnBy false true a = cutOff
 turnBy false false a = judgedTurn a
 
--- what the first file of s comes to, by the automaton of a header and the joined contents p
-unfoldable pub turnOf : Header → (p : List ℕ) → (s : List ℕ) → Turn
-turnOf h p s = turnBy (eqb (length s) 0) (ltb (length s) (firstLength s)) (judgedBy h p (take (firstLength s) s))
+-- what the first file of s comes to, by an automaton
+unfoldable pub turnOf : Automaton → (s : List ℕ) → Turn
+turnOf A s = turnBy (eqb (length s) 0) (ltb (length s) (firstLength s)) (judgedBy A (take (firstLength s) s))
+
+-- there is a file
+abbrev pub IsFile : Turn → Type 0
+IsFile Turn.End = ⊥
+IsFile (Turn.File o more) = Unit {0}
 
 -- ---- the tally after it
 
@@ -83,8 +88,8 @@ abbrev pub taken : Tally → Turn → Next
 taken t Turn.End = record { tally = t; more = false }
 taken t (Turn.File o more) = record { tally = countedUp t o .tally; more = passes (countedUp t o .check) && more }
 
-unfoldable pub nextIn : Header → (p : List ℕ) → Tally → (s : List ℕ) → Next
-nextIn h p t s = taken t (turnOf h p s)
+unfoldable pub nextIn : Automaton → Tally → (s : List ℕ) → Next
+nextIn A t s = taken t (turnOf A s)
 
 -- ---- the whole batch
 
@@ -97,13 +102,13 @@ abbrev pub goingOn : Next → (later : Tally) → Tally
 goingOn n later = cond (n .more) later (n .tally)
 
 -- the tally of at most so many files
-unfoldable pub batchWithin : (files : ℕ) → Header → (p : List ℕ) → Tally → (s : List ℕ) → Tally
-batchWithin zero h p t s = t
-batchWithin (suc n) h p t s = goingOn (nextIn h p t s) (batchWithin n h p (nextIn h p t s .tally) (restOf s))
+unfoldable pub batchWithin : (files : ℕ) → Automaton → Tally → (s : List ℕ) → Tally
+batchWithin zero A t s = t
+batchWithin (suc n) A t s = goingOn (nextIn A t s) (batchWithin n A (nextIn A t s .tally) (restOf s))
 
 -- "letters end to end": the tally of all, no file being shorter than a byte
-unfoldable pub batchOf : Header → (p : List ℕ) → Tally → (s : List ℕ) → Tally
-batchOf h p t s = batchWithin (suc (length s)) h p t s
+unfoldable pub batchOf : Automaton → Tally → (s : List ℕ) → Tally
+batchOf A t s = batchWithin (suc (length s)) A t s
 
 abbrev pub nothingCounted : Tally
 nothingCounted = record { accepted = 0; other = 0; refused = 0 }
@@ -115,4 +120,4 @@ abbrev pub tallied : Tally → Check → Tallied
 tallied t c = record { tally = t; check = c }
 
 unfoldable pub talliedOf : (w trees : List ℕ) → Tally → Tallied
-talliedOf w trees t = readAutomaton w (λ r. tallied t (Check.Refused r)) (λ h p. tallied (batchOf h p t trees) Check.Passed)
+talliedOf w trees t = byAutomaton w (λ r. tallied t (Check.Refused r)) (λ A. tallied (batchOf A t trees) Check.Passed)

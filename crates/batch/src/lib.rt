@@ -4,17 +4,20 @@ pub mod file;
 use automaton::Header;
 use membership::Answer;
 use membership::judge_file;
+use overloops::LeafTable;
 use refusal::Check;
 use tally::Outcome;
 use tally::Tally;
 use tally::count;
+use transitions::TransitionTable;
 ghost use mathlib.Core.Path.{_≡_};
 ghost use mathlib.Core.Bool.{cond, _&&_};
 ghost use Prim.Native.Nat.{_<_, _≤_};
-ghost use lib.ListN.{length, take, drop};
-ghost use Rattle.blocks.specs.Blocks.{content};
-ghost use Rattle.overloops.specs.Prepared.{Prepared};
-ghost use Rattle.batch.specs.Batch.{fileBlocks, firstLength, outcomeOf, endsBatch, judgedTurn, passes, turnOf, restOf, batchOf};
+ghost use lib.ListN.{length, drop};
+ghost use Rattle.algorithms.specs.Automaton.{Automaton};
+ghost use Rattle.automaton.specs.File.{WithinLimits};
+ghost use Rattle.overloops.specs.Ready.{Ready};
+ghost use Rattle.batch.specs.Batch.{fileBlocks, firstLength, outcomeOf, endsBatch, judgedTurn, passes, turnOf, IsFile, restOf, batchOf};
 ghost use Rattle.batch.specs.declared.Turn.{Turn};
 
 // What a batch has next: nothing, as there is no input left; or a file, by its outcome and whether the batch goes on after it.
@@ -104,10 +107,10 @@ fn judged_turn(answer: Answer) -> Turn
 }
 
 // What the first file comes to, by an automaton that was prepared.
-pub fn turn_in(header: Header, table: &[u32], leaves: &[u32], bytes: &[u8]) -> Turn
-    requires { ⌜ Prepared header (now table) (now leaves) ⌝ }
-    ensures { λ r. ⌜ ((p : Prepared header (now (table .entry)) (now (leaves .entry)))
-        → r ≡ turnOf header (content (p .file)) (now (bytes .entry))) ⌝ }
+pub fn turn_in(header: Header, table: &TransitionTable, leaves: &LeafTable, bytes: &[u8]) -> Turn
+    requires { ⌜ WithinLimits header ⌝ }
+    ensures { λ r. ⌜ (IsFile r → 0 < length (now (bytes .entry)))
+        × ((A : Automaton) → Ready A header (now (table .entry)) (now (leaves .entry)) → r ≡ turnOf A (now (bytes .entry))) ⌝ }
 {
     if bytes.len() == 0 {
         return Turn::End;
@@ -135,13 +138,14 @@ fn turn_after(
     more: bool,
     at: usize,
     header: Header,
-    table: &[u32],
-    leaves: &[u32],
+    table: &TransitionTable,
+    leaves: &LeafTable,
     bytes: &[u8],
 ) -> Turn
-    requires { ⌜ Prepared header (now table) (now leaves) ⌝ }
-    ensures { λ r. ⌜ ((p : Prepared header (now (table .entry)) (now (leaves .entry)))
-        → r ≡ cond (passes check && more) (turnOf header (content (p .file)) (drop at (now (bytes .entry)))) Turn.End) ⌝ }
+    requires { ⌜ WithinLimits header ⌝ }
+    ensures { λ r. ⌜ (IsFile r → at < length (now (bytes .entry)))
+        × ((A : Automaton) → Ready A header (now (table .entry)) (now (leaves .entry))
+        → r ≡ cond (passes check && more) (turnOf A (drop at (now (bytes .entry)))) Turn.End) ⌝ }
 {
     if goes_on(check, more) {
         turn_in(header, table, leaves, back(bytes, at))
@@ -154,13 +158,13 @@ fn turn_after(
 pub fn tally_all(
     before: Tally,
     header: Header,
-    table: &[u32],
-    leaves: &[u32],
+    table: &TransitionTable,
+    leaves: &LeafTable,
     bytes: &[u8],
 ) -> Tally
-    requires { ⌜ Prepared header (now table) (now leaves) ⌝ }
-    ensures { λ r. ⌜ ((p : Prepared header (now (table .entry)) (now (leaves .entry)))
-        → r ≡ batchOf header (content (p .file)) before (now (bytes .entry))) ⌝ }
+    requires { ⌜ WithinLimits header ⌝ }
+    ensures { λ r. ⌜ ((A : Automaton) → Ready A header (now (table .entry)) (now (leaves .entry))
+        → r ≡ batchOf A before (now (bytes .entry))) ⌝ }
 {
     let mut tally = before;
     let mut at: usize = 0;

@@ -33,7 +33,8 @@ use denote.RattleType.{RattleType, owns}
 use denote.Laws.{Is}
 use denote.Plain.{uint-lawful, uint-makes, uint-tells, bool-makes}
 use denote.Builtin.{u8, u32, usize, bool}
-use denote.Ref.{RefT, now}
+use denote.Array.{Array}
+use denote.Ref.{RefT, now, ShrRef, ptr-vals, shr-tells, shr-lawful}
 use denote.Signature.{plain}
 use denote.Slice.{sliceTy, sliceVal, ShrSlice, slice-vals, shr-slice-tells, shr-slice-lawful, shr-slice-copy}
 use denote.Steps.{owned, only}
@@ -45,10 +46,10 @@ use denote.Triple.Clauses.{ensured, lasts}
 use denote.Triple.Entry.{onEntry}
 use denote.Triple.Spec.{Meets, tripleOf}
 use denote.Triple.Table.{entered, cited}
-use denote.Triple.Walked.{says, needs, Stays, stay-none, stay-none-slice, walkOf, AllGo, goes-none, goes-none-slice, Walks, ends-at, walked, walk-meets}
+use denote.Triple.Walked.{says, needs, Stays, stay-none, stay-none-ref, stay-none-slice, walkOf, AllGo, goes-none, goes-none-ref, goes-none-slice, Walks, ends-at, walked, walk-meets}
 use denote.Exit.{yes}
 use Rattle.automaton.specs.declared.Header.{Header}
-use Rattle.overloops.specs.Prepared.{Prepared}
+use Rattle.automaton.specs.File.{WithinLimits}
 use Rattle.refusal.specs.declared.Check.{Check}
 use Rattle.tally.specs.declared.Tally.{Tally}
 use Rattle.batch.specs.declared.Turn.{Turn}
@@ -94,9 +95,9 @@ stayed = (
   (
     stay-none (λ _. D.the-row) yes,
     (
-      stay-none-slice (0 ∷ []) tt (plain (λ _. u32)) yes,
+      stay-none-ref (0 ∷ []) tt (plain (λ _. Array u32 9216)) yes,
       (
-        stay-none-slice (1 ∷ []) tt (plain (λ _. u32)) yes,
+        stay-none-ref (1 ∷ []) tt (plain (λ _. Array u32 1536)) yes,
         (stay-none-slice (2 ∷ []) tt (plain (λ _. u8)) yes, tt),
       ),
     ),
@@ -129,10 +130,10 @@ module _ {M : Type 1} (𝓤 : URA M) (H : Heap 𝓤) (A : Atoms 𝓤) (W : Given
     (κ₀ κ₁ κ₂ : Lft) (q₀ q₁ q₂ : Share) (before : Tally) (h : Header) (table leaves bytes : RefT (List ℕ))
     (before-is : Is T.the-row before (tally-vals before))
     (header-is : Is D.the-row h (header-vals h))
-    (table-is : Is (ShrSlice (named 0) κ₀ u32) table (slice-vals table))
-    (leaves-is : Is (ShrSlice (named 1) κ₁ u32) leaves (slice-vals leaves))
+    (table-is : Is (ShrRef (named 0) κ₀ (Array u32 9216)) table (ptr-vals table))
+    (leaves-is : Is (ShrRef (named 1) κ₁ (Array u32 1536)) leaves (ptr-vals leaves))
     (bytes-is : Is (ShrSlice (named 2) κ₂ u8) bytes (slice-vals bytes))
-    (prepared : Prepared h (table .now) (leaves .now)) where
+    (limits : WithinLimits h) where
   abbrev κs : Lft × (Lft × (Lft × Unit {0}))
   κs = (κ₀, (κ₁, (κ₂, tt)))
 
@@ -200,7 +201,7 @@ module _ {M : Type 1} (𝓤 : URA M) (H : Heap 𝓤) (A : Atoms 𝓤) (W : Given
       use1 W (‵ Owns ⊛ ‵ Owns) twice $ split ! $
       owned ! D.the-row (Is D.the-row) (LL.makes D.the-type D′.the-plain 𝓤 H A) h _ header-is $ fjoin ! $ move ! (2 ∷ 0 ∷ []) $
       use2 W (raw (TurnIn 𝓤 H A mem run .pre to-turn-in))
-      (qed W (Token ∷ ‵ (owns (D.the-row ∷ Slices) (h, slices) (header-vals h, slices-at)) ∷ []) ∵ says ! prepared $ done !) $ frame ! $ done !
+      (qed W (Token ∷ ‵ (owns (D.the-row ∷ Slices) (h, slices) (header-vals h, slices-at)) ∷ []) ∵ says ! limits $ done !) $ frame ! $ done !
 
   abbrev to-place : ℕ → PlaceAfter 𝓤 H A mem run .Ghost
   to-place n = (((κ₂, tt), (q₂, tt), tt, (bytes, (n, tt)), (slice-vals bytes, (vint w64 n ∷ [], tt))), tt)
@@ -237,7 +238,7 @@ module _ {M : Type 1} (𝓤 : URA M) (H : Heap 𝓤) (A : Atoms 𝓤) (W : Given
       owned ! K.the-row (Is K.the-row) (EL.makes K.the-type K′.the-plain 𝓤 H A) k _ k-is $ fjoin ! $ move ! (2 ∷ 0 ∷ []) $
       use2 W (raw (TurnAfter 𝓤 H A mem run .pre (to-turn-after k m n)))
       (qed W (Token ∷ ‵ (owns (K.the-row ∷ bool ∷ usize ∷ D.the-row ∷ Slices) (k, (m, (n, (h, slices))))
-      (check-vals k, (vbool m ∷ [], (vint w64 n ∷ [], (header-vals h, slices-at))))) ∷ []) ∵ says ! prepared $ done !) $ frame ! $ done !
+      (check-vals k, (vbool m ∷ [], (vint w64 n ∷ [], (header-vals h, slices-at))))) ∷ []) ∵ says ! limits $ done !) $ frame ! $ done !
 
   -- ---- the exit
   exits : (x : Where) → Turn.End ≡ x .0 .turn → ent 𝓤 (⋆ 𝓤 H A (Token ∷ ‵ Owns ∷ [])) (Post (LL.val T.the-type T′.the-laws (x .0 .tally)))
@@ -263,7 +264,7 @@ module _ {M : Type 1} (𝓤 : URA M) (H : Heap 𝓤) (A : Atoms 𝓤) (W : Given
     module _ (l₀ l₁ l₂ l₃ l₄ l₅ l₆ l₇ l₈ l₉ l₁₀ l₁₁ l₁₂ : ℕ) where
       abbrev En : Env 𝓤 H
       En =
-          (T′.mir, l₀) ∷ (T′.mir, l₁) ∷ (D′.mir, l₂) ∷ (words 0, l₃) ∷ (words 1, l₄) ∷ (octets, l₅) ∷ (T′.mir, l₆) ∷ (tyInt w64, l₇) ∷ (N′.mir, l₈) ∷
+          (T′.mir, l₀) ∷ (T′.mir, l₁) ∷ (D′.mir, l₂) ∷ (words 0 9216, l₃) ∷ (words 1 1536, l₄) ∷ (octets, l₅) ∷ (T′.mir, l₆) ∷ (tyInt w64, l₇) ∷ (N′.mir, l₈) ∷
           (O′.mir, l₉) ∷ (tyBool, l₁₀) ∷ (K′.mir, l₁₁) ∷ (tallyRef, l₁₂) ∷ []
 
       -- before a turn of the loop, with the turn r in `_8`
@@ -275,8 +276,8 @@ module _ {M : Type 1} (𝓤 : URA M) (H : Heap 𝓤) (A : Atoms 𝓤) (W : Given
           ‵ (fat fullShare N′.mir l₈ 0 (EL.val N.the-type N′.the-laws r)) ∷ ‵ (fdies N′.mir l₈) ∷
           ‵ (fat fullShare (tyInt w64) l₇ 0 (vint w64 (x .0 .at))) ∷ ‵ (fdies (tyInt w64) l₇) ∷ ‵ (fdies T′.mir l₆) ∷
           ‵ (fat fullShare octets l₅ 0 (sliceVal (bytes .ptr) (length (bytes .now)))) ∷ ‵ (fdies octets l₅) ∷
-          ‵ (fat fullShare (words 1) l₄ 0 (sliceVal (leaves .ptr) (length (leaves .now)))) ∷ ‵ (fdies (words 1) l₄) ∷
-          ‵ (fat fullShare (words 0) l₃ 0 (sliceVal (table .ptr) (length (table .now)))) ∷ ‵ (fdies (words 0) l₃) ∷
+          ‵ (fat fullShare (words 1 1536) l₄ 0 (only (ptr-vals leaves))) ∷ ‵ (fdies (words 1 1536) l₄) ∷
+          ‵ (fat fullShare (words 0 9216) l₃ 0 (only (ptr-vals table))) ∷ ‵ (fdies (words 0 9216) l₃) ∷
           ‵ (fat fullShare D′.mir l₂ 0 (LL.val D.the-type D′.the-laws h)) ∷ ‵ (fdies D′.mir l₂) ∷
           ‵ (fat fullShare T′.mir l₁ 0 (LL.val T.the-type T′.the-laws before)) ∷ ‵ (fdies T′.mir l₁) ∷
           ‵ (froom T′.mir l₀ 0) ∷ ‵ (fdies T′.mir l₀) ∷ []
@@ -346,7 +347,7 @@ module _ {M : Type 1} (𝓤 : URA M) (H : Heap 𝓤) (A : Atoms 𝓤) (W : Given
                   rewrite ! 11 (λ (w : Val). ‵ (fat fullShare N′.mir l₈ 0 w)) (ap only (EL.tells N.the-type N′.the-laws r (u″ ∷ []) r-is)) refl $
                   forget ! 3 refl $ forget ! 5 refl $ forget ! 7 refl $ forget ! 9 refl $
                   again ! Nearer At x (
-                    onward h (table .now) (leaves .now) before (bytes .now) (x .0) o m e t k told n put r next prepared,
+                    onward h (table .now) (leaves .now) before (bytes .now) (x .0) o m e t k told n put r next,
                     (t-is, (n-is .1, EL.owes N.the-type N′.the-laws r (EL.owed N.the-type N′.the-laws r _ r-is))),
                   )
                   (nearer h (table .now) (leaves .now) before (bytes .now) (x .0) o m e t k told n put r next))))))),
@@ -358,16 +359,16 @@ module _ {M : Type 1} (𝓤 : URA M) (H : Heap 𝓤) (A : Atoms 𝓤) (W : Given
           o-is = EL.owed N.the-type N′.the-laws (Turn.File o m) _ is .0
 
     walk : ent 𝓤 (onEntry 𝓤 H A f.signature κs qs x₀ at₀)
-        (WpFn 𝓤 H C Λ code.function (LL.val T.the-type T′.the-laws before ∷ LL.val D.the-type D′.the-laws h ∷ sliceVal (table .ptr) (length (table .now)) ∷
-        sliceVal (leaves .ptr) (length (leaves .now)) ∷ sliceVal (bytes .ptr) (length (bytes .now)) ∷ []) Post)
+        (WpFn 𝓤 H C Λ code.function (LL.val T.the-type T′.the-laws before ∷ LL.val D.the-type D′.the-laws h ∷ only (ptr-vals table) ∷ only (ptr-vals leaves) ∷
+        sliceVal (bytes .ptr) (length (bytes .now)) ∷ []) Post)
     walk =
         qed W (raw (onEntry 𝓤 H A f.signature κs qs x₀ at₀) ∷ []) ∵ enter ! C Λ code.function _ _ $
         alloc1 ! (λ l₀. alloc1 ! (λ l₁. alloc1 ! (λ l₂. alloc1 ! (λ l₃. alloc1 ! (λ l₄. alloc1 ! (λ l₅. alloc1 ! (λ l₆. alloc1 ! (λ l₇. alloc1 ! (λ l₈.
         alloc1 ! (λ l₉. alloc1 ! (λ l₁₀. alloc1 ! (λ l₁₁. alloc1 ! (λ l₁₂. alloc0 ! $ params1 ! $
         pass1 ! (init ! 22 refl (LL.lawful T.the-type T′.the-laws 𝓤 H A W .typed before _ before-is .0)) $
         pass1 ! (init ! 20 refl (LL.lawful D.the-type D′.the-laws 𝓤 H A W .typed h _ header-is .0)) $
-        pass1 ! (init ! 18 refl (shr-slice-lawful 𝓤 H A W (named 0) κ₀ u32 .typed table _ table-is .0)) $
-        pass1 ! (init ! 16 refl (shr-slice-lawful 𝓤 H A W (named 1) κ₁ u32 .typed leaves _ leaves-is .0)) $
+        pass1 ! (init ! 18 refl (shr-lawful 𝓤 H A W (named 0) κ₀ (Array u32 9216) .typed table _ table-is .0)) $
+        pass1 ! (init ! 16 refl (shr-lawful 𝓤 H A W (named 1) κ₁ (Array u32 1536) .typed leaves _ leaves-is .0)) $
         pass1 ! (init ! 14 refl (shr-slice-lawful 𝓤 H A W (named 2) κ₂ u8 .typed bytes _ bytes-is .0)) $ pass0 ! $
         -- [room for _12; …; room for _6; …; _5; …; _1; …; room for _0; …; what the function has on entry]
         assigns ! (of-opd ! (load ! (from ! (stop !)) (look ! 22 refl))) (from ! (stop !))
@@ -386,7 +387,7 @@ module _ {M : Type 1} (𝓤 : URA M) (H : Heap 𝓤) (A : Atoms 𝓤) (W : Given
         move ! (0 ∷ 1 ∷ 14 ∷ []) $ first ! $ blocks ! $
         loops ! 𝓣 Nearer Nearer-wf (At l₀ l₁ l₂ l₃ l₄ l₅ l₆ l₇ l₈ l₉ l₁₀ l₁₁ l₁₂)
         (λ x. matched l₀ l₁ l₂ l₃ l₄ l₅ l₆ l₇ l₈ l₉ l₁₀ l₁₁ l₁₂ x (x .0 .turn) refl (x .1 .1 .1)) (
-          begun h (table .now) (leaves .now) before (bytes .now) prepared r e,
+          begun h (table .now) (leaves .now) before (bytes .now) r e,
           (before-is, (lit< tt, EL.owes N.the-type N′.the-laws r (EL.owed N.the-type N′.the-laws r _ is))),
         ))))))))))))))))
 
@@ -395,20 +396,20 @@ module _ {M : Type 1} (𝓤 : URA M) (H : Heap 𝓤) (A : Atoms 𝓤) (W : Given
       Walks 𝓤 H A f.ended stayed (WpFn 𝓤 H (𝓣 .C) (𝓣 .Λ) code.function) (f.clauses 𝓤 H A mem run)
   tally-all-walks 𝓣 known =
       walked 𝓤 H A f.ended stayed (f.clauses 𝓤 H A mem run) (WpFn 𝓤 H (𝓣 .C) (𝓣 .Λ) code.function)
-      (λ κs. (tally-vals, (header-vals, (slice-vals, (slice-vals, (slice-vals, tt))))))
+      (λ κs. (tally-vals, (header-vals, (ptr-vals, (ptr-vals, (slice-vals, tt))))))
       (λ κs. (
         LL.tells T.the-type T′.the-laws,
         (
           LL.tells D.the-type D′.the-laws,
           (
-            shr-slice-tells (named 0) (κs .0) u32,
-            (shr-slice-tells (named 1) (κs .1 .0) u32, (shr-slice-tells (named 2) (κs .1 .1 .0) u8, tt)),
+            shr-tells (named 0) (κs .0) (Array u32 9216),
+            (shr-tells (named 1) (κs .1 .0) (Array u32 1536), (shr-slice-tells (named 2) (κs .1 .1 .0) u8, tt)),
           ),
         ),
       ))
-      (λ κs qs bounds a g are. needs 𝓤 (Prepared (a .1 .0) (now (a .1 .1 .0)) (now (a .1 .1 .1 .0))) _ (λ prepared.
+      (λ κs qs bounds a g are. needs 𝓤 (WithinLimits (a .1 .0)) _ (λ limits.
       walk 𝓤 H A W mem run (κs .0) (κs .1 .0) (κs .1 .1 .0) (qs .0) (qs .1 .0) (qs .1 .1 .0) (a .0) (a .1 .0) (a .1 .1 .0) (a .1 .1 .1 .0) (a .1 .1 .1 .1 .0)
-      (are .0) (are .1 .0) (are .1 .1 .0) (are .1 .1 .1 .0) (are .1 .1 .1 .1 .0) prepared 𝓣 known))
+      (are .0) (are .1 .0) (are .1 .1 .0) (are .1 .1 .1 .0) (are .1 .1 .1 .1 .0) limits 𝓣 known))
 
   goes : AllGo 𝓤 H A W 3 (f.signature .params) (f.ended .kept) stayed
   goes = (
@@ -416,9 +417,9 @@ module _ {M : Type 1} (𝓤 : URA M) (H : Heap 𝓤) (A : Atoms 𝓤) (W : Given
     (
       goes-none 𝓤 H A W 3 (λ _. D.the-row) yes (λ κs x f. refl),
       (
-        goes-none-slice 𝓤 H A W 3 (0 ∷ []) tt (plain (λ _. u32)) yes,
+        goes-none-ref 𝓤 H A W 3 (0 ∷ []) tt (plain (λ _. Array u32 9216)) yes,
         (
-          goes-none-slice 𝓤 H A W 3 (1 ∷ []) tt (plain (λ _. u32)) yes,
+          goes-none-ref 𝓤 H A W 3 (1 ∷ []) tt (plain (λ _. Array u32 1536)) yes,
           (goes-none-slice 𝓤 H A W 3 (2 ∷ []) tt (plain (λ _. u8)) yes, tt),
         ),
       ),
