@@ -13,11 +13,11 @@ use Rattle.algorithms.specs.Automaton.{Automaton}
 use Rattle.algorithms.specs.Overloops.{loops, accepts?}
 use Rattle.model.specs.declared.Signature.{Signature}
 use Rattle.overloops.proofs.Laws.{accepted-by}
-use Rattle.tree.specs.Preorder.{Writes, Below}
+use Rattle.nodes.specs.Preorder.{Writes, Below}
 use Rattle.blocks.specs.Blocks.{content}
 use Rattle.tree.specs.File.{nodesOf, nodesAfter}
 use Rattle.tree.proofs.Reading.{TreeRead, nodes-front}
-use Rattle.tree.proofs.Signatures.{shaped-over}
+use Rattle.nodes.proofs.Signatures.{shaped-over}
 use Rattle.tree.specs.declared.file.ParsedTree.{ParsedTree}
 
 pub accepts-by : (A : Automaton) (t : Tree) (initial final : ℕ) (rows : List ℕ) (b : Bool) → A .initial ≡ initial → A .accepting ≡ final

@@ -12,7 +12,7 @@ use Rattle.automaton.specs.File.{readAutomaton}
 use Rattle.automaton.specs.declared.Header.{Header}
 use Rattle.transitions.specs.Transitions.{automatonOf}
 use Rattle.tree.specs.File.{nodesOf, readTree}
-use Rattle.tree.specs.Nodes.{treeOf}
+use Rattle.nodes.specs.Nodes.{treeOf}
 use Rattle.tree.specs.declared.file.ParsedTree.{ParsedTree}
 use Rattle.membership.specs.declared.Answer.{Answer}
 

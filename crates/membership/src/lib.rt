@@ -20,7 +20,7 @@ ghost use Rattle.model.specs.Trees.{Tree, size};
 ghost use Rattle.algorithms.specs.Automaton.{Automaton};
 ghost use Rattle.algorithms.specs.Overloops.{overloops, loops, accepts?};
 ghost use Rattle.blocks.specs.Blocks.{content};
-ghost use Rattle.tree.specs.Preorder.{Stands};
+ghost use Rattle.nodes.specs.Preorder.{Stands};
 ghost use Rattle.overloops.specs.Tables.{Of, Tabled, Leaves};
 ghost use Rattle.overloops.specs.Prepared.{Prepared};
 ghost use Rattle.membership.specs.Judged.{judgedBy, judged};

@@ -13,7 +13,7 @@ use Rattle.automaton.proofs.Passed.{file-read}
 use Rattle.transitions.specs.Transitions.{automatonOf}
 use Rattle.transitions.proofs.Meaning.{file-proper}
 use Rattle.tree.specs.File.{nodesOf, readTree}
-use Rattle.tree.specs.Nodes.{treeOf}
+use Rattle.nodes.specs.Nodes.{treeOf}
 use Rattle.tree.proofs.Reading.{TreeRead, tree-read}
 use Rattle.tree.specs.declared.file.ParsedTree.{ParsedTree}
 use Rattle.membership.specs.Judged.{signatureOf, judgedBy}
