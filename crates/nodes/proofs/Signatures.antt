@@ -2,7 +2,6 @@
 -- Assumes nothing.
 use Prim.Native.Nat.{ℕ}
 use native.Mathlib.Omega.{arith}
-use mathlib.Core.Logic.{_↔_}
 use mathlib.Core.List.{List, [], _∷_, _++_}
 use borrow.Author.Tests.{ne-eqb, eq-eqb, eqb-true, eqb-false}
 use Rattle.relation.specs.Bit.{bit}
@@ -46,6 +45,3 @@ over-shaped sg (node σ l r) h k =
       over-shaped sg l (h .1) (parts .0),
       over-shaped sg r (h .2) (parts .1),
     )
-
-pub over-parts : (sg : Signature) (t : Tree) → Over (alphabet sg) t ↔ (Shaped (sg .branches) t × Below (sg .symbols) (preorder t))
-over-parts sg t = (shaped-over sg t, λ h. over-shaped sg t (h .0) (h .1))
