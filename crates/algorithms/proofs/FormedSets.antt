@@ -13,7 +13,7 @@ use Rattle.model.specs.declared.Place.the-variants.{Root, Child}
 use Rattle.model.specs.Trees.{leaf}
 use Rattle.model.specs.Runs.{Chain, UpClosure, Overloop, Loop, Simple}
 use Rattle.model.specs.Lists.{_∈_}
-use Rattle.model.proofs.Congruence.{sides}
+use Rattle.model.proofs.FromParts.{sides}
 use Rattle.algorithms.specs.Automaton.{Automaton, Δ, Proper, alphabetOf}
 use Rattle.algorithms.specs.Overloops.{leafLoops, nodeLoops, leafOverloops, nodeOverloops}
 use Rattle.algorithms.specs.Saturate.{Parts}

@@ -10,7 +10,6 @@ use lib.Dec.{T, T-not, not-T}
 use Rattle.relation.proofs.BitLaws.{bit-pow, bit-pow-eq}
 use Rattle.relation.specs.Rows.{has, holding}
 use Rattle.relation.proofs.Pairs.{holding-has, meeting-has}
-use Rattle.relation.proofs.Algebra.{same-pairs}
 use Rattle.model.specs.declared.Side.{Side}
 use Rattle.model.specs.declared.Side.the-variants.{Left, Right}
 use Rattle.model.specs.declared.Place.{Place}
@@ -19,7 +18,7 @@ use Rattle.model.specs.Trees.{Tree}
 use Rattle.model.specs.Runs.{Chain, Overloop, Simple}
 use Rattle.model.specs.Counting.{Over}
 use Rattle.model.proofs.RunLaws.{chain-map}
-use Rattle.model.proofs.Congruence.{simple-map}
+use Rattle.model.proofs.FromParts.{simple-map}
 use Rattle.model.specs.Approximation.{Part, Top, Holds, Least}
 use Rattle.model.proofs.Inside.{overloop-inside, clear-rejects}
 use Rattle.algorithms.specs.Automaton.{Automaton, In, Δ, Accepted, Proper, alphabetOf}
@@ -214,15 +213,3 @@ module _ (A : Automaton) (P : Proper A) where
   -- The paper's Theorem 28: where the answer is Clear, no tree of any size is accepted.
   pub clear-sound : T (clear? A) → (t : Tree) → Over (alphabetOf A) t → ¬ Accepted A t
   clear-sound c = clear-rejects (Δ A) (alphabetOf A) (In (A .accepting)) parts-hold (clear-has .0 c)
-
-  -- Tables within the states that are least too are the same: so any way to compute them will do.
-  pub parts-unique : (x : Parts) → WithinParts A x → Least (Δ A) (alphabetOf A) (In (A .accepting)) (setsOf A x) → x ≡ leastParts A
-  parts-unique x w l =
-      ap₂ parts (same-pairs (x .left) (leastParts A .left) (w .0) (within-least .0) (same Left))
-      (same-pairs (x .right) (leastParts A .right) (w .1) (within-least .1) (same Right))
-    where
-      same : (s : Side) (p q : ℕ) → has (side s x) p q ↔ has (side s (leastParts A)) p q
-      same s p q = (
-        λ h. held (side s (leastParts A)) p q .0 (l .least (setsOf A (leastParts A)) parts-hold .0 s p q (held (side s x) p q .1 h)),
-        λ h. held (side s x) p q .0 (parts-least .least (setsOf A x) (l .holds) .0 s p q (held (side s (leastParts A)) p q .1 h)),
-      )

@@ -19,10 +19,10 @@ use Rattle.model.specs.declared.Place.{Place}
 use Rattle.model.specs.declared.Place.the-variants.{Root, Child}
 use Rattle.model.specs.declared.Move.{Move}
 use Rattle.model.specs.declared.Move.the-variants.{Stay, Up, Down}
-use Rattle.model.specs.Trees.{Tree, leaf, node, symbol}
+use Rattle.model.specs.Trees.{Tree, leaf, node}
 use Rattle.model.specs.Runs.{Chain, done, _then_, Loop, UpClosure, Overloop, Simple, loop-here, loop-down}
 use Rattle.model.proofs.Loops.{loop-leaf}
-use Rattle.model.proofs.Congruence.{Same, sides, parts-by, loop-node-by, overloop-node}
+use Rattle.model.proofs.FromParts.{Same, sides, parts-by, loop-node-by, overloop-node}
 use Rattle.algorithms.specs.Automaton.{Automaton, In, Δ, Accepted, Proper}
 use Rattle.algorithms.proofs.Tests.{T-true}
 use Rattle.algorithms.specs.Overloops.{rowsFrom, moves, nodeSimple, leafLoops, nodeLoops, upClosure, leafOverloops, nodeOverloops, overloops, loops}
@@ -247,11 +247,6 @@ module _ (A : Automaton) (P : Proper A) where
   )
 
   -- ---- acceptance
-  pub overloops-loops : (τ : Place) (t : Tree) → overloops A τ t ≡ upClosure A τ (symbol t) (loops A τ t)
-  unfolding overloops loops leafOverloops nodeOverloops
-  overloops-loops τ (leaf σ) = refl
-  overloops-loops τ (node σ l r) = refl
-
   pub loops-has : (τ : Place) (t : Tree) (p q : ℕ) → has (loops A τ t) p q ↔ (Loop (Δ A) τ t p q × (q < n))
   unfolding loops
   loops-has τ (leaf σ) p q = has-leafLoops τ σ p q

@@ -33,9 +33,9 @@ use Rattle.automaton.specs.declared.Header.{Header}
 use Rattle.automaton.specs.declared.file.Parsed.{Parsed}
 use Rattle.transitions.specs.Transitions.{nextStates, automatonOf}
 use Rattle.tree.specs.File.{nodesOf, readTree, layoutCheck as treeLayout, bodyCheck as treeBody}
-use Rattle.tree.specs.Nodes.{treeOf, noSymbol, symbolsCheck, partsFrom, shapeCheck, forest, depthOf, heightCheck, nodesCheck}
+use Rattle.nodes.specs.Nodes.{treeOf, noSymbol, symbolsCheck, partsFrom, shapeCheck, forest, depthOf, heightCheck, nodesCheck}
 use Rattle.tree.specs.Payload.{payloadOf as nodesPayload}
-use Rattle.tree.specs.Preorder.{Writes}
+use Rattle.nodes.specs.Preorder.{Writes}
 use Rattle.tree.proofs.Reading.{tree-read}
 use Rattle.tree.specs.declared.file.ParsedTree.{ParsedTree}
 use Rattle.membership.specs.Judged.{signatureOf, acceptedIf, judgedBy, judged}

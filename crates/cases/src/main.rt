@@ -8,7 +8,6 @@ use refusal::Refusal;
 use transitions::single::Singleness;
 use tree::file::ParsedTree;
 ghost use Prim.Native.Nat.{_≤_};
-ghost use lib.ListN.{length};
 
 fn wide(b: u8) -> usize
     ensures { λ r. ⌜ r ≤ 255 ⌝ }

@@ -22,7 +22,7 @@ use Rattle.emptiness.specs.Surveyed.{planBytes, surveyOf, written, buffe
 use Rattle.saturation.specs.Ends.{verdictOf, FoundFew}
 use Rattle.emptiness.specs.declared.Survey.{Survey}
 use Rattle.representatives.specs.declared.Origin.{Origin}
-use Rattle.saturation.specs.declared.Verdict.{Verdict}
+use Rattle.saturation.specs.declared.Saturated.{Saturated}
 
 pub bytes-length : (p : List WitnessRow) → length (planBytes p) ≡ 3 * length p
 bytes-length [] = refl
@@ -72,28 +72,28 @@ plan-step rows t u u′ i o e f g =
 
 -- ---- a verdict of the rounds, told and written
 
-abbrev pub toldAs : Verdict → Survey
-toldAs (Verdict.Found h n o) = Survey.Found h (n + 1)
-toldAs (Verdict.Open h) = Survey.Open h
-toldAs (Verdict.Empty h) = Survey.Empty h
+abbrev pub toldAs : Saturated → Survey
+toldAs (Saturated.Found h n o) = Survey.Found h (n + 1)
+toldAs (Saturated.Open h) = Survey.Open h
+toldAs (Saturated.Empty h) = Survey.Empty h
 
-abbrev pub leftAs : Verdict → (rows plan : List ℕ) → List ℕ
-leftAs (Verdict.Found h n o) rows plan = planBytes (originsIn rows n ++ originOf o ∷ []) ++ drop (3 * (n + 1)) plan
-leftAs (Verdict.Open h) rows plan = plan
-leftAs (Verdict.Empty h) rows plan = plan
+abbrev pub leftAs : Saturated → (rows plan : List ℕ) → List ℕ
+leftAs (Saturated.Found h n o) rows plan = planBytes (originsIn rows n ++ originOf o ∷ []) ++ drop (3 * (n + 1)) plan
+leftAs (Saturated.Open h) rows plan = plan
+leftAs (Saturated.Empty h) rows plan = plan
 
-as-told : (r : Verdict) (rows plan : List ℕ) → (toldAs r ≡ surveyOf (verdictOf r rows)) × (leftAs r rows plan ≡ written (verdictOf r rows) plan)
-as-told (Verdict.Found h n o) rows plan =
+as-told : (r : Saturated) (rows plan : List ℕ) → (toldAs r ≡ surveyOf (verdictOf r rows)) × (leftAs r rows plan ≡ written (verdictOf r rows) plan)
+as-told (Saturated.Found h n o) rows plan =
     let count : length (originsIn rows n ++ originOf o ∷ []) ≡ n + 1 = length-append (originsIn rows n) (originOf o ∷ []) ∙ ap (λ (k : ℕ). k + 1) (origins-length rows n) in
     (rw count refl, rw count refl)
-as-told (Verdict.Open h) rows plan = (refl, refl)
-as-told (Verdict.Empty h) rows plan = (refl, refl)
+as-told (Saturated.Open h) rows plan = (refl, refl)
+as-told (Saturated.Empty h) rows plan = (refl, refl)
 
-pub verdict-told : (v : saturation.Verdict) (r r′ : Verdict) (rows plan plan′ : List ℕ) → v ≡ verdictOf r rows → r ≡ r′ → plan′ ≡ leftAs r′ rows plan
+pub verdict-told : (v : saturation.Verdict) (r r′ : Saturated) (rows plan plan′ : List ℕ) → v ≡ verdictOf r rows → r ≡ r′ → plan′ ≡ leftAs r′ rows plan
     → (toldAs r′ ≡ surveyOf v) × (plan′ ≡ written v plan)
 verdict-told v r r′ rows plan plan′ e f g = rw (e, f, g) (as-told r′ rows plan)
 
-pub found-few : {r : Verdict} {h n : ℕ} {o : Origin} → r ≡ Verdict.Found h n o → FoundFew r → n ≤ 64
+pub found-few : {r : Saturated} {h n : ℕ} {o : Origin} → r ≡ Saturated.Found h n o → FoundFew r → n ≤ 64
 found-few e f = rw e at f
 
 -- a buffer that passes its check

@@ -8,7 +8,7 @@ use automaton::file::Parsed;
 use refusal::Check;
 use refusal::Fault;
 use refusal::refused;
-use saturation::Verdict;
+use saturation::Saturated;
 use saturation::saturate;
 ghost use mathlib.Core.Path.{_≡_};
 ghost use Prim.Native.Nat.{_≤_};
@@ -41,9 +41,9 @@ fn survey_read(table: &[u32], leaves: &[u32], header: Header, plan: &mut [u8]) -
 {
     let mut kept = [0u32; 3264];
     match saturate(table, leaves, header, &mut kept) {
-        Verdict::Open(height) => Survey::Open(height),
-        Verdict::Empty(height) => Survey::Empty(height),
-        Verdict::Found {
+        Saturated::Open(height) => Survey::Open(height),
+        Saturated::Empty(height) => Survey::Empty(height),
+        Saturated::Found {
             height,
             rows: n,
             origin,

@@ -9,7 +9,7 @@ ghost use Prim.Native.Nat.{_+_, _<_, _≤_};
 ghost use lib.ListN.{length, drop};
 ghost use lib.Seq.{sets};
 ghost use Rattle.model.specs.Trees.{Tree, size};
-ghost use Rattle.tree.specs.Preorder.{Stands};
+ghost use Rattle.nodes.specs.Preorder.{Stands};
 ghost use Rattle.links.specs.Links.{parentsFrom, rightsFrom, parentsOf, rightsOf, placeIn};
 
 // Fills the tables for the tree at node `at`, which is a part of node `parent`, and gives the node after it.

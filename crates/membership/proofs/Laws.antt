@@ -16,12 +16,12 @@ use Rattle.refusal.specs.declared.Refusal.{Refusal}
 use Rattle.automaton.specs.declared.Header.{Header}
 use Rattle.overloops.specs.Ready.{Headed}
 use Rattle.overloops.proofs.Laws.{accepted-by}
-use Rattle.tree.specs.Preorder.{Writes, Below}
+use Rattle.nodes.specs.Preorder.{Writes, Below}
 use Rattle.blocks.specs.Blocks.{content}
 use Rattle.tree.specs.File.{nodesOf, readTree, nodesAfter}
 use Rattle.tree.specs.Nodes.{treeOf}
 use Rattle.tree.proofs.Reading.{TreeRead, nodes-front}
-use Rattle.tree.proofs.Signatures.{shaped-over}
+use Rattle.nodes.proofs.Signatures.{shaped-over}
 use Rattle.tree.specs.declared.file.ParsedTree.{ParsedTree}
 use Rattle.membership.specs.Judged.{signatureOf, acceptedIf, judgedBy}
 use Rattle.membership.specs.declared.Answer.{Answer}

@@ -13,9 +13,9 @@ use Rattle.refusal.specs.declared.Refusal.{Refusal}
 use Rattle.transitions.specs.Transitions.{automatonOf}
 use Rattle.transitions.proofs.Meaning.{file-proper}
 use Rattle.tree.specs.File.{nodesOf}
-use Rattle.tree.specs.Nodes.{treeOf}
+use Rattle.nodes.specs.Nodes.{treeOf}
 use Rattle.tree.proofs.Reading.{tree-read}
-use Rattle.tree.proofs.Laws.{writes-one}
+use Rattle.nodes.proofs.Laws.{writes-one}
 use Rattle.membership.specs.Judged.{signatureOf, acceptedIf, judgedBy, judged}
 use Rattle.membership.specs.Demand2.{Demand2}
 use Rattle.membership.specs.declared.Answer.{Answer}

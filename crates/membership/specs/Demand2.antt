@@ -13,7 +13,7 @@ use Rattle.automaton.specs.declared.Header.{Header}
 use Rattle.automaton.specs.declared.file.Parsed.{Parsed}
 use Rattle.transitions.specs.Transitions.{automatonOf}
 use Rattle.tree.specs.File.{nodesOf, readTree}
-use Rattle.tree.specs.Preorder.{Writes}
+use Rattle.nodes.specs.Preorder.{Writes}
 use Rattle.tree.specs.declared.file.ParsedTree.{ParsedTree}
 use Rattle.membership.specs.Judged.{signatureOf}
 use Rattle.membership.specs.declared.Answer.{Answer}

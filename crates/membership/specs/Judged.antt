@@ -10,7 +10,7 @@ use Rattle.algorithms.specs.Overloops.{accepts?}
 use Rattle.blocks.specs.Blocks.{content}
 use Rattle.transitions.specs.Transitions.{byAutomaton}
 use Rattle.tree.specs.File.{nodesOf, readTree}
-use Rattle.tree.specs.Nodes.{treeOf}
+use Rattle.nodes.specs.Nodes.{treeOf}
 use Rattle.tree.specs.declared.file.ParsedTree.{ParsedTree}
 use Rattle.membership.specs.declared.Answer.{Answer}
 

@@ -21,7 +21,7 @@ ghost use lib.ListN.{length, getD};
 ghost use Rattle.model.specs.Trees.{Tree, size};
 ghost use Rattle.algorithms.specs.Automaton.{Automaton};
 ghost use Rattle.algorithms.specs.Overloops.{overloops, loops, accepts?};
-ghost use Rattle.tree.specs.Preorder.{Stands};
+ghost use Rattle.nodes.specs.Preorder.{Stands};
 ghost use Rattle.automaton.specs.File.{WithinLimits};
 ghost use Rattle.overloops.specs.Tables.{Tabled, Leaves};
 ghost use Rattle.overloops.specs.Ready.{Ready};

@@ -6,7 +6,7 @@ use Rattle.model.specs.Runs.{Transitions, Accepts, Loop, Overloop, PartO
 use Rattle.model.specs.Counting.{Alphabet, Over}
 use Rattle.model.proofs.RunLaws.{chain-map}
 use Rattle.model.proofs.Loops.{loop-node}
-use Rattle.model.proofs.Congruence.{simple-map}
+use Rattle.model.proofs.FromParts.{simple-map}
 use Rattle.model.specs.Approximation.{Holds}
 
 module _ (Δ : Transitions) (S : Alphabet) (F : ℕ → Type 0) where

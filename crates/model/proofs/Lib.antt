@@ -3,7 +3,7 @@ pub mod ListLaws
 pub mod Positions
 pub mod RunLaws
 pub mod Loops
-pub mod Congruence
+pub mod FromParts
 pub mod Deterministic
 pub mod OverloopLaws
 pub mod Escape

@@ -10,7 +10,7 @@ use Rattle.model.specs.Runs.{Run, Loop, Overloop}
 use Rattle.model.specs.Overloops.{Below, same, deeper, StepBelow, LoopAt, StepToParent, to-overroot, to-parent, OverloopAt}
 use Rattle.model.proofs.Positions.{at-unique, relative, relative-unique, parent-not-below, below-append}
 use Rattle.model.proofs.RunLaws.{chain-map, shift, step-append, step-relative}
-use Rattle.model.proofs.Congruence.{Computed, overloop-computed}
+use Rattle.model.proofs.FromParts.{Computed, overloop-computed}
 
 module _ (Δ : Transitions) where
   -- A step from at or below s ∷ α to its parent is a transition up at s ∷ α itself.

@@ -1,5 +1,5 @@
 -- What a loop over a round's candidates needs: the round done so far, and the candidates that are left.
-use Prim.Native.Nat.{ℕ, zero, suc, _+_, _≤_, _<_}
+use Prim.Native.Nat.{ℕ, zero, suc, _+_, _≤_}
 use mathlib.Core.Path.{_≡_, refl, sym, ap, _∙_}
 use mathlib.Core.Bool.{Bool, true, false}
 use mathlib.Core.Option.{none, some}
@@ -32,12 +32,6 @@ module _ (M : Algebra) where
   absorb-append kept [] ds = refl
   absorb-append kept (c ∷ cs) ds = absorb-append (keepIfNew M (known M (c .class) kept) kept c) cs ds
 
-  -- One candidate more.
-  pub absorb-snoc : (kept cs : List (Candidate M)) (c : Candidate M)
-      → absorb M kept (cs ++ c ∷ []) ≡ keepIfNew M (known M (c .class) (absorb M kept cs)) (absorb M kept cs) c
-  unfolding absorb
-  absorb-snoc kept cs c = absorb-append kept cs (c ∷ [])
-
   -- The rows kept stay, each at its place.
   pub absorb-at : (kept cs : List (Candidate M)) {i : ℕ} {r : Candidate M} → Nth kept i r → Nth (absorb M kept cs) i r
   unfolding absorb keepIfNew
@@ -57,10 +51,6 @@ module _ (M : Algebra) where
           → length kept ≤ length (absorb M (keepIfNew M b kept c) cs)
       step true h = h true
       step false h = omega (arith, h false, length-append kept (c ∷ []))
-
-  -- A table that is over the limit stays so: a loop may stop adding there, though not stop testing.
-  pub over-stays : (limit : ℕ) (kept cs ds : List (Candidate M)) → limit < length (absorb M kept cs) → limit < length (absorb M kept (cs ++ ds))
-  over-stays limit kept cs ds h = rw (absorb-append kept cs ds) (omega (arith, absorb-longer (absorb M kept cs) ds))
 
   -- The first accepted of two lists, one after the other.
   pub first-here : (cs ds : List (Candidate M)) (c : Candidate M) → firstAccepted M cs ≡ some c → firstAccepted M (cs ++ ds) ≡ some c

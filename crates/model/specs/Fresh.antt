@@ -9,7 +9,7 @@ use lib.Dec.{ltb}
 use Rattle.model.specs.Lists.{countFrom}
 use Rattle.model.specs.Counting.{Alphabet}
 use Rattle.model.specs.Saturation.{Algebra, Candidate, Verdict, Open, Ending, leafCandidate, nodeCandidate}
-use Rattle.model.specs.Saturation.{candidates, firstAccepted, absorb, conclude, round, after}
+use Rattle.model.specs.Saturation.{firstAccepted, absorb, conclude, after}
 
 -- ---- the rounds
 

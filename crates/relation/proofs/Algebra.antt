@@ -1,45 +1,17 @@
 -- The algebra of relations: what stays within n states, and the laws of joining, composing and closing, for every n up to 24 at once. Each
 -- law is shown by the pairs. Assumes nothing.
-use mathlib.Core.Path.{_≡_, refl, sym, ap, subst, _∙_}
-use mathlib.Core.Logic.{_⊎_, inl, inr, ⊎-elim, _↔_, Iff·rfl}
-use mathlib.Core.Bool.{Bool, true, false, _&&_}
-use mathlib.Core.List.{List, [], _∷_}
-use Prim.Native.Nat.{ℕ, zero, suc, _^_, _≤_, _<_, zero-le, suc-le-suc}
-use native.Mathlib.Nat.{not-suc-le-zero}
-use native.Mathlib.Omega.{arith}
-use borrow.Author.Tests.{eqb-true, ltb-true}
-use lib.Dec.{eqb, ltb}
-use lib.ListN.{length, getD, length-set, length-map}
-use Rattle.relation.specs.Bit.{bit}
-use Rattle.relation.proofs.BitLaws.{bit-zero, bit-below, lt-of-bits}
-use Rattle.relation.specs.Rows.{has, noPairs, added, joined, imageOf, composed, closed, sameRows, bounded, fitting}
-use Rattle.relation.proofs.Pairs.{ext, same-rows-eq, has-none, has-added, has-joined, has-composed, length-joined}
+use mathlib.Core.Path.{_≡_, refl, sym, _∙_}
+use mathlib.Core.Logic.{_⊎_, inl, inr, ⊎-elim, _↔_}
+use mathlib.Core.List.{List}
+use Prim.Native.Nat.{ℕ, _^_, _≤_, _<_}
+use lib.ListN.{length, getD, length-map}
+use Rattle.relation.proofs.BitLaws.{lt-of-bits}
+use Rattle.relation.specs.Rows.{has, noPairs, joined, imageOf, composed, closed}
+use Rattle.relation.proofs.Pairs.{ext, has-none, has-joined, has-composed, length-joined}
 use Rattle.relation.specs.Chain.{Chain, stop, step, Within}
 use Rattle.relation.proofs.ChainLaws.{chain-trans, has-closed, within-closed}
 
 -- ---- what stays within n states
-
-both : (s t : Bool) → (s && t) ≡ true → (s ≡ true) × (t ≡ true)
-both true t h = (refl, h)
-both false t h = (cc, cc)
-
-inside-bounded : (n k : ℕ) (R : List ℕ) → bounded n k R ≡ true → (p q : ℕ) → has R p q → (p < k) × (q < n)
-inside-bounded n k [] e p q h = absurd (omega (arith, bit-zero q, h))
-inside-bounded n zero (x ∷ R) e zero q h =
-    let z = eqb-true x 0 (both (eqb x 0) (bounded n zero R) e .0) in
-    absurd (omega (arith, ap (λ (y : ℕ). bit y q) z, bit-zero q, h))
-inside-bounded n zero (x ∷ R) e (suc p) q h =
-    absurd (not-suc-le-zero (inside-bounded n zero R (both (eqb x 0) (bounded n zero R) e .1) p q h .0))
-inside-bounded n (suc k) (x ∷ R) e zero q h =
-    (suc-le-suc zero-le, bit-below x n q (ltb-true x (2 ^ n) (both (ltb x (2 ^ n)) (bounded n k R) e .0)) h)
-inside-bounded n (suc k) (x ∷ R) e (suc p) q h =
-    let i = inside-bounded n k R (both (ltb x (2 ^ n)) (bounded n k R) e .1) p q h in (suc-le-suc (i .0), i .1)
-
--- Of a relation that is written out, antt computes the test.
-pub within-fitting : (n : ℕ) (R : List ℕ) → fitting n R ≡ true → Within n R
-within-fitting n R e =
-    let h = both (eqb (length R) 24) (bounded n n R) e in
-    record { rows = eqb-true (length R) 24 (h .0); inside = inside-bounded n n R (h .1) }
 
 -- The rows of a relation within n states are numbers of n bits.
 pub row-lt : (n : ℕ) (R : List ℕ) → Within n R → (p : ℕ) → getD R p 0 < 2 ^ n
@@ -47,13 +19,6 @@ row-lt n R w p = lt-of-bits (getD R p 0) n (λ q h. w .inside p q h .1)
 
 pub within-none : (n : ℕ) → Within n noPairs
 within-none n = record { rows = refl; inside = λ p q h. absurd (has-none p q h) }
-
-pub within-added : (n : ℕ) (R : List ℕ) → n ≤ 24 → Within n R → (p q : ℕ) → p < n → q < n → Within n (added R p q)
-within-added n R l w p q lp lq =
-    record {
-      rows = length-set R p _ ∙ w .rows;
-      inside = λ a b h. ⊎-elim (w .inside a b) (λ e. omega (arith, e .0, e .1, lp, lq)) (has-added R p q (omega (arith, w .rows)) a b .0 h);
-    }
 
 pub within-joined : (n : ℕ) (A B : List ℕ) → Within n A → Within n B → Within n (joined A B)
 within-joined n A B u v =
@@ -69,16 +34,9 @@ within-composed n A B u v =
       inside = λ p r h. let c = has-composed A B p r .0 h in (u .inside p (c .0) (c .1) .0, v .inside (c .0) r (c .2) .1);
     }
 
--- Relations within n states that have the same pairs are equal ..
+-- Relations within n states that have the same pairs are equal.
 pub same-pairs : {n : ℕ} (A B : List ℕ) → Within n A → Within n B → ((p q : ℕ) → has A p q ↔ has B p q) → A ≡ B
 same-pairs A B u v h = ext A B (u .rows ∙ sym (v .rows)) h
-
--- .. so that they test equal just where they have the same pairs.
-pub equal-pairs : {n : ℕ} (A B : List ℕ) → Within n A → Within n B → (sameRows A B ≡ true) ↔ ((p q : ℕ) → has A p q ↔ has B p q)
-equal-pairs A B u v = (
-  λ e p q. subst (λ (R : List ℕ). has A p q ↔ has R p q) (same-rows-eq A B .0 e) Iff·rfl,
-  λ h. same-rows-eq A B .1 (same-pairs A B u v h),
-)
 
 -- ---- laws
 
@@ -197,12 +155,3 @@ closed-composed n R l w =
 
     v : Within n (closed n R)
     v = within-closed n R l w
-
--- The closure is the least relation that has the pairs, each (p, p) below n, and (p, r) for each (p, q) and (q, r).
-pub closed-least : (n : ℕ) (R S : List ℕ) → n ≤ 24 → Within n R → ((p q : ℕ) → has R p q → has S p q) → ((p : ℕ) → p < n → has S p p)
-    → ((p q r : ℕ) → has S p q → has S q r → has S p r) → (p q : ℕ) → has (closed n R) p q → has S p q
-closed-least n R S l w sub self trans p q h = go (has-closed n R l w p q .0 h)
-  where
-    go : {p q : ℕ} → Chain n R p q → has S p q
-    go (stop {p = p} b) = self p b
-    go (step {p = p} {q = q} {r = r} a c) = trans p q r (sub p q a) (go c)

@@ -2,7 +2,7 @@
 use mathlib.Core.Path.{_≡_, refl, sym, ap, _∙_, subst}
 use mathlib.Core.Logic.{_⊎_, inl, inr, ⊎-elim}
 use Prim.Native.Nat.{ℕ, zero, suc, _+_, _-_, _*_, _/_, _%_, _^_, _≤_, _<_}
-use native.Mathlib.Nat.{pow-suc, suc-mul, mod-lt, not-suc-le-zero}
+use native.Mathlib.Nat.{pow-suc, suc-mul, mod-lt}
 use native.Mathlib.Omega.{arith}
 use lib.Bits.{bitOr, bitAnd, and-step, and-self, or-disjoint}
 use lib.Count.{trailingZeros, under}
@@ -21,17 +21,6 @@ trailing-on (suc k) x h l = go (x % 2) refl (λ (e : x % 2 ≡ 0). trailing-on k
     go : (r : ℕ) → x % 2 ≡ r → (x % 2 ≡ 0 → bit (x / 2) (trailingZeros k (x / 2)) ≡ 1) → bit x (under r (trailingZeros k (x / 2))) ≡ 1
     go zero e ih = sym (bit-half x (trailingZeros k (x / 2))) ∙ ih e
     go (suc r) e ih = omega (arith, bit-low x)
-
-trailing-clear : (k x j : ℕ) → j < trailingZeros k x → bit x j ≡ 0
-unfolding trailingZeros
-trailing-clear zero x j l = absurd (not-suc-le-zero l)
-trailing-clear (suc k) x j l = go (x % 2) refl j l (λ i. trailing-clear k (x / 2) i)
-  where
-    go : (r : ℕ) → x % 2 ≡ r → (j : ℕ) → j < under r (trailingZeros k (x / 2))
-        → ((i : ℕ) → i < trailingZeros k (x / 2) → bit (x / 2) i ≡ 0) → bit x j ≡ 0
-    go zero e zero l ih = bit-low x ∙ e
-    go zero e (suc j) l ih = sym (bit-half x j) ∙ ih j (omega arith)
-    go (suc r) e j l ih = absurd (not-suc-le-zero l)
 
 -- `x & (x - 1)` clears the lowest bit.
 trailing-rest : (k x : ℕ) → 0 < x → x < 2 ^ k → bitAnd x (x - 1) + 2 ^ trailingZeros k x ≡ x
@@ -84,10 +73,6 @@ module _ (x : ℕ) (some : 0 < x) (l : x < 2 ^ 32) where
   unfolding lowestOf
   lowest-on = trailing-on 32 x some l
 
-  pub lowest-clear : (j : ℕ) → j < lowestOf x → bit x j ≡ 0
-  unfolding lowestOf
-  lowest-clear j h = trailing-clear 32 x j h
-
   pub lowest-lt : (n : ℕ) → x < 2 ^ n → lowestOf x < n
   lowest-lt n h = bit-below x n (lowestOf x) h lowest-on
 
@@ -98,10 +83,6 @@ module _ (x : ℕ) (some : 0 < x) (l : x < 2 ^ 32) where
   pub rest-less : restOf x < x
   unfolding restOf
   rest-less = omega (arith, pow-pos (lowestOf x))
-
-  pub rest-off : bit (restOf x) (lowestOf x) ≡ 0
-  unfolding restOf
-  rest-off = clear-at x (lowestOf x) lowest-on .1
 
   join-rest : bitOr (restOf x) (2 ^ lowestOf x) ≡ x
   unfolding restOf

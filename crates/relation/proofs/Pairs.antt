@@ -3,7 +3,7 @@ use mathlib.Core.Path.{_≡_, refl, sym, ap, ap₂, _∙_, subst}
 use mathlib.Core.Logic.{_⊎_, inl, inr, ⊎-elim, _↔_}
 use mathlib.Core.Bool.{Bool, true, false, not, _&&_}
 use mathlib.Core.List.{List, [], _∷_, map}
-use Prim.Native.Nat.{ℕ, zero, suc, _+_, _/_, _^_, _<_}
+use Prim.Native.Nat.{ℕ, zero, suc, _+_, _^_, _<_}
 use native.Mathlib.Nat.{suc-add, add-suc, add-zero, zero-add, suc-inj}
 use native.Mathlib.Decide.{ℕ-discrete}
 use native.Mathlib.Omega.{arith}
@@ -13,9 +13,9 @@ use lib.Dec.{eqb}
 use lib.ListN.{length, getD, replicate, List·getD-map}
 use lib.Seq.{ext-getD, getD-set-same, getD-set-other}
 use Rattle.relation.specs.Bit.{bit}
-use Rattle.relation.proofs.BitLaws.{bit-lt, bit-off, bit-zero, bit-low, bit-half, bit-pow, bit-pow-eq, bit-ext, some-bit, or-has, and-has}
+use Rattle.relation.proofs.BitLaws.{bit-lt, bit-off, bit-zero, bit-pow, bit-pow-eq, bit-ext, some-bit, or-has, and-has}
 use Rattle.relation.specs.Rows.{has, holding, noPairs, added, joined, orIf, gathered, imageOf, composed, absorbed, through, meeting}
-use Rattle.relation.specs.Rows.{sameRows, bitsOf}
+use Rattle.relation.specs.Rows.{sameRows}
 
 -- ---- relations with the same pairs are equal
 
@@ -194,8 +194,3 @@ meeting-has rows from to = (go (eqb (bitAnd image to) 0) refl, of)
     of c =
         let here : bit (bitAnd image to) (c .1) ≡ 1 = and-has image to (c .1) .1 (has-image rows from (c .1) .1 (c .0, c .2, c .4), c .3) in
         ap not (ne-eqb (bitAnd image to) 0 (λ z. omega (arith, here, ap (λ (x : ℕ). bit x (c .1)) z, bit-zero (c .1))))
-
--- `bitsOf` counts bit by bit.
-pub bits-more : (d x : ℕ) → bitsOf (suc d) x ≡ bitsOf d x + bit x d
-bits-more zero x = omega (arith, bit-low x)
-bits-more (suc d) x = omega (arith, bits-more d (x / 2), bit-half x d)

@@ -13,7 +13,7 @@ ghost use Rattle.candidates.specs.Tries.{Read};
 ghost use Rattle.saturation.specs.Ends.{verdictOf, FoundFew};
 
 // How the rounds end: Found at a height after so many rows, with the accepted tree; Open or Empty at a height.
-pub enum Verdict {
+pub enum Saturated {
     Found {
         height: usize,
         rows: usize,
@@ -24,7 +24,7 @@ pub enum Verdict {
 }
 
 // The rounds, from no row on. Each but the last adds a row, so that they end.
-pub fn saturate(table: &[u32], leaves: &[u32], header: Header, rows: &mut [u32]) -> Verdict
+pub fn saturate(table: &[u32], leaves: &[u32], header: Header, rows: &mut [u32]) -> Saturated
     requires { ⌜ (length (now table) ≡ 9216) × (length (now leaves) ≡ 1536) × (header .states ≤ 24) × (header .symbols ≤ 32)
         × (length (now rows) ≡ 3264) ⌝ }
     ensures { λ r. ⌜ FoundFew r × ((A : Automaton) → Read A header (now (table .entry)) → Leaves A (now (leaves .entry))
@@ -35,17 +35,17 @@ pub fn saturate(table: &[u32], leaves: &[u32], header: Header, rows: &mut [u32])
     let mut height: usize = 0;
     loop {
         match round(table, leaves, header, height, old, n, rows) {
-            Tried::Accepted(origin) => return Verdict::Found {
+            Tried::Accepted(origin) => return Saturated::Found {
                 height,
                 rows: n,
                 origin,
             },
             Tried::Kept(m) => {
                 if 64 < m {
-                    return Verdict::Open(height);
+                    return Saturated::Open(height);
                 }
                 if m <= n {
-                    return Verdict::Empty(height);
+                    return Saturated::Empty(height);
                 }
                 old = n;
                 n = m;

@@ -13,10 +13,10 @@ use Rattle.refusal.specs.Lines.{fileCheck, kindCheck, countCheck, sizeCheck, fi
 use Rattle.refusal.specs.declared.Check.{Check}
 use Rattle.refusal.specs.declared.Check.the-variants.{Passed, Refused}
 use Rattle.refusal.proofs.Passed.{clash, both-passed, count-passed, size-passed}
-use Rattle.tree.specs.Preorder.{Writes, Stands}
-use Rattle.tree.specs.Nodes.{treeOf, nodesCheck}
+use Rattle.nodes.specs.Preorder.{Writes, Stands}
+use Rattle.nodes.specs.Nodes.{treeOf, nodesCheck}
 use Rattle.tree.specs.File.{treeFormat, countOf, nodesOf, layoutCheck, bodyCheck, nodesIf, readTree, nodesAfter}
-use Rattle.tree.proofs.Laws.{writes, read-stands}
+use Rattle.nodes.proofs.Laws.{writes, read-stands}
 use Rattle.tree.specs.declared.file.ParsedTree.{ParsedTree}
 
 -- what contents have that lines 3 to 5 do not refuse: a number of nodes within its limits, and all the nodes

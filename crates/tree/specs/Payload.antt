@@ -4,7 +4,7 @@ use mathlib.Core.List.{List, _∷_}
 use lib.ListN.{length}
 use Rattle.blocks.specs.FileOf.{fileOf}
 use Rattle.model.specs.Trees.{Tree}
-use Rattle.tree.specs.Preorder.{preorder}
+use Rattle.nodes.specs.Preorder.{preorder}
 
 -- "Offset 0: kind 84. 1: zero. 2-3: nodes k, .. low byte first. From 4, one symbol a node"
 unfoldable pub payloadOf : (symbols : List ℕ) → List ℕ

@@ -19,11 +19,11 @@ use Rattle.refusal.specs.Lines.{kindCheck, countCheck}
 use Rattle.refusal.specs.declared.Check.the-variants.{Passed}
 use Rattle.refusal.proofs.Written.{Payload, written-passes}
 use Rattle.tree.specs.File.{treeFormat, countOf, nodesOf, layoutCheck, bodyCheck, nodesIf, readTree}
-use Rattle.tree.proofs.Laws.{nodes-pass}
-use Rattle.tree.specs.Nodes.{nodesCheck}
+use Rattle.nodes.proofs.Laws.{nodes-pass}
+use Rattle.nodes.specs.Nodes.{nodesCheck}
 use Rattle.tree.specs.Payload.{payloadOf, treeFile}
-use Rattle.tree.specs.Preorder.{preorder, alphabet, Writes}
-use Rattle.tree.proofs.Standing.{size-preorder}
+use Rattle.nodes.specs.Preorder.{preorder, alphabet, Writes}
+use Rattle.nodes.proofs.Standing.{size-preorder}
 use Rattle.tree.specs.declared.file.ParsedTree.{ParsedTree}
 use Rattle.tree_writer.specs.ReadsBack.{ReadsBack}
 

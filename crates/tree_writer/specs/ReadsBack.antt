@@ -4,9 +4,9 @@ use Rattle.blocks.specs.Blocks.{content}
 use Rattle.model.specs.Trees.{Tree, size}
 use Rattle.model.specs.declared.Signature.{Signature}
 use Rattle.tree.specs.File.{nodesOf, readTree}
-use Rattle.tree.specs.Nodes.{treeOf}
+use Rattle.nodes.specs.Nodes.{treeOf}
 use Rattle.tree.specs.Payload.{treeFile}
-use Rattle.tree.specs.Preorder.{Writes}
+use Rattle.nodes.specs.Preorder.{Writes}
 use Rattle.tree.specs.declared.file.ParsedTree.{ParsedTree}
 
 -- the file is not refused, its nodes write the tree, and the tree is the one that is read

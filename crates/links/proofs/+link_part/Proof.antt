@@ -9,7 +9,7 @@ use Prim.Native.Nat.{ℕ, _-_, _<_}
 use lib.ListN.{length, length-set}
 use borrow.Fn.Kinds.{In}
 use borrow.Fn.PlainCycle.{Measures, is, falls, and}
-use Rattle.tree.proofs.Standing.{within, leaf-here, node-here}
+use Rattle.nodes.proofs.Standing.{within, leaf-here, node-here}
 use Rattle.links.specs.Links.{parentsFrom, rightsFrom}
 use Rattle.links.proofs.Storing.{parents-stored, rights-stored}
 use Rattle.links.proofs.link_part.Reads as link-part

@@ -7,7 +7,7 @@ use mathlib.Core.Path.{refl, sym, ap₂, _∙_}
 use Prim.Native.Nat.{ℕ, _-_, _<_}
 use lib.ListN.{length}
 use Rattle.algorithms.specs.Overloops.{nodeOverloops, overloops}
-use Rattle.tree.proofs.Standing.{within, leaf-here, node-here}
+use Rattle.nodes.proofs.Standing.{within, leaf-here, node-here}
 use borrow.Fn.Kinds.{In}
 use borrow.Fn.PlainCycle.{Measures, is, falls, and}
 use Rattle.membership.proofs.part_at.Reads as part-at

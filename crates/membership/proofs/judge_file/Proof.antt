@@ -13,7 +13,7 @@ use Rattle.algorithms.specs.Overloops.{accepts?}
 use Rattle.blocks.specs.Blocks.{content}
 use Rattle.automaton.specs.declared.Header.{Header}
 use Rattle.tree.specs.File.{nodesOf, readTree}
-use Rattle.tree.specs.Nodes.{treeOf}
+use Rattle.nodes.specs.Nodes.{treeOf}
 use Rattle.tree.proofs.Reading.{TreeRead, tree-read}
 use Rattle.tree.specs.declared.file.ParsedTree.{ParsedTree}
 use Rattle.overloops.specs.Ready.{Ready}

@@ -3,7 +3,7 @@
 use borrow.Author.Needs.{needs}
 use mathlib.Core.Path.{sym, ap₂, _∙_}
 use Rattle.algorithms.specs.Overloops.{nodeLoops, loops}
-use Rattle.tree.proofs.Standing.{leaf-here, node-here}
+use Rattle.nodes.proofs.Standing.{leaf-here, node-here}
 use Rattle.membership.proofs.root_loops.Statement.{statement}
 use Rattle.membership.proofs.root_loops.Tie as tie
 
