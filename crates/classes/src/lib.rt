@@ -52,7 +52,13 @@ pub fn leaf_class(leaves: &LeafTable, symbol: Symbol) -> Class
 }
 
 // The class of a node, from the classes of its parts.
-pub fn node_class(table: &TransitionTable, states: usize, symbol: Symbol, l: Class, r: Class) -> Class
+pub fn node_class(
+    table: &TransitionTable,
+    states: usize,
+    symbol: Symbol,
+    l: Class,
+    r: Class,
+) -> Class
     requires { ⌜ (states ≤ 24) × (symbol .0 < 32) ⌝ }
     ensures { λ c. ⌜ ((A : Automaton) → Tabled A states (now (table .entry))
         → partsIn c ≡ algebraOf A .nodeClass (symbol .0) (partsIn l) (partsIn r)) ⌝ }
@@ -77,7 +83,13 @@ pub fn leaf_accepted(table: &TransitionTable, header: Header, symbol: Symbol) ->
 }
 
 // Whether a node over parts of two classes is accepted.
-pub fn node_accepted(table: &TransitionTable, header: Header, symbol: Symbol, l: Class, r: Class) -> bool
+pub fn node_accepted(
+    table: &TransitionTable,
+    header: Header,
+    symbol: Symbol,
+    l: Class,
+    r: Class,
+) -> bool
     requires { ⌜ (header .states ≤ 24) × (symbol .0 < 32) ⌝ }
     ensures { λ b. ⌜ ((A : Automaton) → Headed A header (now (table .entry)) → b ≡ algebraOf A .nodeAccepted (symbol .0) (partsIn l) (partsIn r)) ⌝ }
 {
