@@ -22,12 +22,13 @@ use Rattle.model.specs.declared.Side.the-variants.{Left, Right}
 use Rattle.model.specs.declared.Place.{Place}
 use Rattle.model.specs.declared.Place.the-variants.{Root}
 use Rattle.model.specs.Counting.{Alphabet}
-use Rattle.algorithms.specs.Automaton.{Automaton, consIf, numbered, alphabetOf}
+use Rattle.algorithms.specs.Automaton.{Automaton, consIf, numbered, ranked, alphabetOf}
 use Rattle.algorithms.specs.Overloops.{moves, leafLoops, nodeLoops, upClosure, leafOverloops, nodeOverloops}
 use Rattle.algorithms.specs.Saturate.{Parts, parts, algebraOf}
 use Rattle.algorithms.specs.Approximate.{union, leafSide, formedSide, formed, rootSide}
 use Rattle.automaton.specs.declared.Header.{Header}
-use Rattle.classes.specs.Classes.{HasSymbols}
+use Rattle.overloops.specs.Ready.{Headed}
+use Rattle.overloops.proofs.Laws.{headed-symbols}
 use Rattle.classes.proofs.Symbols.{numbered-snoc}
 
 -- ---- 24 rows
@@ -188,7 +189,10 @@ module _ (A : Automaton) (x : Parts) (set k : ℕ) where
   pub root-leaf : member set k ≡ false → joined (atRoot A x set k) (leafLoops A Root k) ≡ atRoot A x set (k + 1)
   root-leaf = leaf-more (leafLoops A Root) g (full-leafLoops A Root) (λ σ. full-nodeLoops A Root σ (x .left) (x .right)) set k
 
-module _ (A : Automaton) (h : Header) (a : HasSymbols A h) where
+module _ (A : Automaton) (h : Header) (t : List ℕ) (k : Headed A h t) where
+  symbols-are : alphabetOf A ≡ ranked (h .symbols) (h .branches)
+  symbols-are = headed-symbols A h t k
+
   pub leaves-gathered : gathered nothing (algebraOf A .leafClass) (numbered 0 (h .branches) 0 (h .symbols)) ≡ parts (leafSide A Left) (leafSide A Right)
   unfolding leafSide
   leaves-gathered = ap₂ parts (all Left) (all Right)
@@ -199,13 +203,13 @@ module _ (A : Automaton) (h : Header) (a : HasSymbols A h) where
           let f = leafOverloops A (Place.Child s) in
           let σs = numbered 0 (h .branches) 0 (h .symbols) in
           let full = full-union f (full-leafOverloops A (Place.Child s)) σs in
-          joined-comm noPairs (union f σs) (sym full) ∙ joined-none (union f σs) full ∙ ap (λ (S : Alphabet). union f (S .leaves)) (sym a)
+          joined-comm noPairs (union f σs) (sym full) ∙ joined-none (union f σs) full ∙ ap (λ (S : Alphabet). union f (S .leaves)) (sym symbols-are)
 
   pub branches-gathered : (x : Parts) → gathered x (λ σ. algebraOf A .nodeClass σ x x) (numbered 1 (h .branches) 0 (h .symbols)) ≡ formed A x
   unfolding formed formedSide
-  branches-gathered x = ap (λ (S : Alphabet). gathered x (λ σ. algebraOf A .nodeClass σ x x) (S .branches)) (sym a)
+  branches-gathered x = ap (λ (S : Alphabet). gathered x (λ σ. algebraOf A .nodeClass σ x x) (S .branches)) (sym symbols-are)
 
   pub root-gathered : (x : Parts) → atRoot A x (h .branches) (h .symbols) ≡ rootSide A x
   unfolding rootSide
   root-gathered x =
-      ap (λ (S : Alphabet). joined (union (leafLoops A Root) (S .leaves)) (union (λ σ. nodeLoops A Root σ (x .left) (x .right)) (S .branches))) (sym a)
+      ap (λ (S : Alphabet). joined (union (leafLoops A Root) (S .leaves)) (union (λ σ. nodeLoops A Root σ (x .left) (x .right)) (S .branches))) (sym symbols-are)

@@ -7,19 +7,22 @@ use classes::leaf_class;
 use classes::node_class;
 use model::Place;
 use model::Symbol;
+use overloops::LeafTable;
 use overloops::leaf_loops;
 use overloops::node_loops;
 use relation::Relation;
+use transitions::TransitionTable;
 ghost use mathlib.Core.Path.{_≡_};
-ghost use Prim.Native.Nat.{_≤_};
-ghost use lib.ListN.{length};
+ghost use Prim.Native.Nat.{ℕ, _≤_};
+ghost use mathlib.Core.List.{List};
 ghost use Rattle.relation.specs.Rows.{joined};
 ghost use Rattle.model.specs.declared.Side.{Side};
-ghost use Rattle.algorithms.specs.Automaton.{Automaton, Proper};
+ghost use Rattle.algorithms.specs.Automaton.{Automaton};
 ghost use Rattle.algorithms.specs.Saturate.{parts};
 ghost use Rattle.algorithms.specs.Approximate as spec;
-ghost use Rattle.overloops.specs.Tables.{Of, Tabled, Leaves};
-ghost use Rattle.classes.specs.Classes.{partsIn, HasSymbols};
+ghost use Rattle.automaton.specs.File.{WithinLimits};
+ghost use Rattle.overloops.specs.Ready.{Headed, Ready};
+ghost use Rattle.classes.specs.Classes.{partsIn};
 
 // The pairs of both, on each side.
 fn join(sets: Class, other: Class) -> Class
@@ -34,9 +37,9 @@ fn join(sets: Class, other: Class) -> Class
 }
 
 // The overloops of all leaves.
-fn leaf_sets(leaves: &[u32], header: Header) -> Class
-    requires { ⌜ (length (now leaves) ≡ 1536) × (header .symbols ≤ 32) ⌝ }
-    ensures { λ r. ⌜ ((A : Automaton) → HasSymbols A header → Proper A → Leaves A (now (leaves .entry))
+fn leaf_sets(leaves: &LeafTable, header: Header) -> Class
+    requires { ⌜ header .symbols ≤ 32 ⌝ }
+    ensures { λ r. ⌜ ((A : Automaton) (table : List ℕ) → Ready A header table (now (leaves .entry))
         → partsIn r ≡ parts (spec.leafSide A Side.Left) (spec.leafSide A Side.Right)) ⌝ }
 {
     let mut sets = Class {
@@ -52,10 +55,9 @@ fn leaf_sets(leaves: &[u32], header: Header) -> Class
 }
 
 // The sets, with what every branch symbol forms of them.
-fn formed(table: &[u32], header: Header, sets: Class) -> Class
-    requires { ⌜ (length (now table) ≡ 9216) × (header .states ≤ 24) × (header .symbols ≤ 32) ⌝ }
-    ensures { λ r. ⌜ ((A : Automaton) → HasSymbols A header → Tabled A (header .states) (now (table .entry))
-        → partsIn r ≡ spec.formed A (partsIn sets)) ⌝ }
+fn formed(table: &TransitionTable, header: Header, sets: Class) -> Class
+    requires { ⌜ WithinLimits header ⌝ }
+    ensures { λ r. ⌜ ((A : Automaton) → Headed A header (now (table .entry)) → partsIn r ≡ spec.formed A (partsIn sets)) ⌝ }
 {
     let states = header.states as usize;
     let mut more = sets;
@@ -68,10 +70,9 @@ fn formed(table: &[u32], header: Header, sets: Class) -> Class
 }
 
 // The sets with what is formed of them, again and again until nothing is new. Each turn but the last adds one of 2 · 24 · 24 pairs.
-fn settled(table: &[u32], header: Header, start: Class) -> Class
-    requires { ⌜ (length (now table) ≡ 9216) × (header .states ≤ 24) × (header .symbols ≤ 32) ⌝ }
-    ensures { λ r. ⌜ ((A : Automaton) → HasSymbols A header → Tabled A (header .states) (now (table .entry))
-        → partsIn r ≡ spec.settled A 1153 (partsIn start)) ⌝ }
+fn settled(table: &TransitionTable, header: Header, start: Class) -> Class
+    requires { ⌜ WithinLimits header ⌝ }
+    ensures { λ r. ⌜ ((A : Automaton) → Headed A header (now (table .entry)) → partsIn r ≡ spec.settled A 1153 (partsIn start)) ⌝ }
 {
     let mut sets = start;
     for turn in 0..1153usize {
@@ -85,10 +86,9 @@ fn settled(table: &[u32], header: Header, start: Class) -> Class
 }
 
 // The loops at the root of a whole tree, with the left and right sets for its parts.
-fn root_loops(table: &[u32], header: Header, sets: Class) -> Relation
-    requires { ⌜ (length (now table) ≡ 9216) × (header .states ≤ 24) × (header .symbols ≤ 32) ⌝ }
-    ensures { λ r. ⌜ ((A : Automaton) → HasSymbols A header → Tabled A (header .states) (now (table .entry))
-        → r .rows ≡ spec.rootSide A (partsIn sets)) ⌝ }
+fn root_loops(table: &TransitionTable, header: Header, sets: Class) -> Relation
+    requires { ⌜ WithinLimits header ⌝ }
+    ensures { λ r. ⌜ ((A : Automaton) → Headed A header (now (table .entry)) → r .rows ≡ spec.rootSide A (partsIn sets)) ⌝ }
 {
     let states = header.states as usize;
     let left = sets.left;
@@ -105,10 +105,9 @@ fn root_loops(table: &[u32], header: Header, sets: Class) -> Relation
 }
 
 // Whether no loop at the root leads from an initial state to a final one, with the least sets for the parts.
-pub fn is_clear(table: &[u32], leaves: &[u32], header: Header) -> bool
-    requires { ⌜ (length (now table) ≡ 9216) × (length (now leaves) ≡ 1536) × (header .states ≤ 24) × (header .symbols ≤ 32) ⌝ }
-    ensures { λ r. ⌜ ((A : Automaton) → Of A header → HasSymbols A header → Tabled A (header .states) (now (table .entry))
-        → Leaves A (now (leaves .entry)) → r ≡ spec.clear? A) ⌝ }
+pub fn is_clear(table: &TransitionTable, leaves: &LeafTable, header: Header) -> bool
+    requires { ⌜ WithinLimits header ⌝ }
+    ensures { λ r. ⌜ ((A : Automaton) → Ready A header (now (table .entry)) (now (leaves .entry)) → r ≡ spec.clear? A) ⌝ }
 {
     let sets = settled(table, header, leaf_sets(leaves, header));
     !root_loops(table, header, sets).meets(header.initial, header.accepting)

@@ -1,6 +1,6 @@
 -- What trying candidates one after the other gives: the first that is accepted, or the rows kept. In terms of the saturation's own
 -- functions on lists.
--- Interface: `Read`, `overRows`, `Keeps`, `Tries`, `Few`.
+-- Interface: `overRows`, `Keeps`, `Tries`, `Few`.
 use mathlib.Core.Path.{_≡_}
 use mathlib.Core.Option.{none, some}
 use mathlib.Core.List.{List, map, flatMap}
@@ -11,18 +11,9 @@ use Rattle.model.specs.Saturation.{Algebra, Candidate, nodeCandidate, firstAcce
 use Rattle.model.specs.Fresh.{rights}
 use Rattle.algorithms.specs.Automaton.{Automaton}
 use Rattle.algorithms.specs.Saturate.{algebraOf}
-use Rattle.automaton.specs.declared.Header.{Header}
-use Rattle.overloops.specs.Tables.{Of, Tabled}
-use Rattle.classes.specs.Classes.{HasSymbols}
 use Rattle.representatives.specs.Stored.{originOf, StoredAt, Stored}
 use Rattle.representatives.specs.declared.Origin.{Origin}
 use Rattle.candidates.specs.declared.Tried.{Tried}
-
--- the automaton of a header and a table of transitions
-pub record Read (A : Automaton) (h : Header) (table : List ℕ) : Type 0 where
-  pub of : Of A h
-  pub tabled : Tabled A (h .states) table
-  pub symbols : HasSymbols A h
 
 -- the candidates of a branch symbol over the first k rows, and on the right the first `to`, without those over two rows below `old`
 abbrev pub overLefts : (M : Algebra) (base : List (Candidate M)) (old to σ k : ℕ) → List (Candidate M)

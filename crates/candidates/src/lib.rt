@@ -7,10 +7,13 @@ use classes::leaf_class;
 use classes::node_accepted;
 use classes::node_class;
 use model::Symbol;
+use overloops::LeafTable;
 use representatives::Origin;
 use representatives::Row;
+use representatives::RowTable;
 use representatives::class_at;
 use representatives::keep;
+use transitions::TransitionTable;
 ghost use mathlib.Core.Path.{_≡_};
 ghost use mathlib.Core.List.{List, [], _∷_, map, flatMap};
 ghost use Prim.Native.Nat.{ℕ, _-_, _<_, _≤_};
@@ -22,8 +25,9 @@ ghost use Rattle.model.specs.Saturation.{Candidate, leafCandidate, nodeCandidat
 ghost use Rattle.model.specs.Fresh.{rights, freshCandidates};
 ghost use Rattle.algorithms.specs.Automaton.{Automaton, consIf, numbered, alphabetOf};
 ghost use Rattle.algorithms.specs.Saturate.{algebraOf};
-ghost use Rattle.overloops.specs.Tables.{Leaves};
-ghost use Rattle.candidates.specs.Tries.{Read, overRows, Keeps, Tries, Few};
+ghost use Rattle.automaton.specs.File.{WithinLimits};
+ghost use Rattle.overloops.specs.Ready.{Headed, Ready};
+ghost use Rattle.candidates.specs.Tries.{overRows, Keeps, Tries, Few};
 
 // What trying candidates gives: the first that is accepted, or the count of the rows kept (65 for more than 64).
 pub enum Tried {
@@ -33,16 +37,15 @@ pub enum Tried {
 
 // Tries a leaf.
 fn try_leaf(
-    table: &[u32],
-    leaves: &[u32],
+    table: &TransitionTable,
+    leaves: &LeafTable,
     header: Header,
     symbol: Symbol,
-    rows: &mut [u32],
+    rows: &mut RowTable,
     n: usize,
 ) -> Tried
-    requires { ⌜ (length (now table) ≡ 9216) × (length (now leaves) ≡ 1536) × (header .states ≤ 24) × (symbol .0 < 32)
-        × (length (now rows) ≡ 3264) × (n ≤ 65) ⌝ }
-    ensures { λ r. ⌜ Few r × ((A : Automaton) → Read A header (now (table .entry)) → Leaves A (now (leaves .entry))
+    requires { ⌜ (header .states ≤ 24) × (symbol .0 < 32) × (n ≤ 65) ⌝ }
+    ensures { λ r. ⌜ Few r × ((A : Automaton) → Ready A header (now (table .entry)) (now (leaves .entry))
         → (base kept : List (Candidate (algebraOf A))) → Keeps A base kept n (now (rows .entry))
         → Tries A base kept (leafCandidate (algebraOf A) (symbol .0) ∷ []) (now (rows .exit)) r) ⌝ }
 {
@@ -59,17 +62,16 @@ fn try_leaf(
 
 // Tries a branch symbol over two rows.
 fn try_node(
-    table: &[u32],
+    table: &TransitionTable,
     header: Header,
     symbol: Symbol,
     left: Row,
     right: Row,
-    rows: &mut [u32],
+    rows: &mut RowTable,
     n: usize,
 ) -> Tried
-    requires { ⌜ (length (now table) ≡ 9216) × (header .states ≤ 24) × (symbol .0 < 32) × (left .0 < 64) × (right .0 < 64)
-        × (length (now rows) ≡ 3264) × (n ≤ 65) ⌝ }
-    ensures { λ r. ⌜ Few r × ((A : Automaton) → Read A header (now (table .entry))
+    requires { ⌜ (header .states ≤ 24) × (symbol .0 < 32) × (left .0 < 64) × (right .0 < 64) × (n ≤ 65) ⌝ }
+    ensures { λ r. ⌜ Few r × ((A : Automaton) → Headed A header (now (table .entry))
         → (base kept : List (Candidate (algebraOf A))) → Keeps A base kept n (now (rows .entry)) → left .0 < length base → right .0 < length base
         → Tries A base kept (nodeCandidate (algebraOf A) base (symbol .0) (left .0) (right .0) ∷ []) (now (rows .exit)) r) ⌝ }
 {
@@ -96,18 +98,17 @@ fn try_node(
 
 // Tries a branch symbol over a left row and the right rows from..to.
 fn try_rights(
-    table: &[u32],
+    table: &TransitionTable,
     header: Header,
     symbol: Symbol,
     left: Row,
     from: usize,
     to: usize,
-    rows: &mut [u32],
+    rows: &mut RowTable,
     kept: usize,
 ) -> Tried
-    requires { ⌜ (length (now table) ≡ 9216) × (header .states ≤ 24) × (symbol .0 < 32) × (left .0 < to) × (from ≤ to) × (to ≤ 64)
-        × (length (now rows) ≡ 3264) × (kept ≤ 65) ⌝ }
-    ensures { λ r. ⌜ Few r × ((A : Automaton) → Read A header (now (table .entry))
+    requires { ⌜ (header .states ≤ 24) × (symbol .0 < 32) × (left .0 < to) × (from ≤ to) × (to ≤ 64) × (kept ≤ 65) ⌝ }
+    ensures { λ r. ⌜ Few r × ((A : Automaton) → Headed A header (now (table .entry))
         → (base before : List (Candidate (algebraOf A))) → Keeps A base before kept (now (rows .entry)) → length base ≡ to
         → Tries A base before (map (λ b. nodeCandidate (algebraOf A) base (symbol .0) (left .0) b) (countFrom from (to - from))) (now (rows .exit)) r) ⌝ }
 {
@@ -130,17 +131,16 @@ fn first_right(left: Row, old: usize) -> usize
 
 // Tries a branch symbol over the rows below `to`, of which those below `old` are old.
 fn try_lefts(
-    table: &[u32],
+    table: &TransitionTable,
     header: Header,
     symbol: Symbol,
     old: usize,
     to: usize,
-    rows: &mut [u32],
+    rows: &mut RowTable,
     kept: usize,
 ) -> Tried
-    requires { ⌜ (length (now table) ≡ 9216) × (header .states ≤ 24) × (symbol .0 < 32) × (old ≤ to) × (to ≤ 64)
-        × (length (now rows) ≡ 3264) × (kept ≤ 65) ⌝ }
-    ensures { λ r. ⌜ Few r × ((A : Automaton) → Read A header (now (table .entry))
+    requires { ⌜ (header .states ≤ 24) × (symbol .0 < 32) × (old ≤ to) × (to ≤ 64) × (kept ≤ 65) ⌝ }
+    ensures { λ r. ⌜ Few r × ((A : Automaton) → Headed A header (now (table .entry))
         → (base before : List (Candidate (algebraOf A))) → Keeps A base before kept (now (rows .entry)) → length base ≡ to
         → Tries A base before (overRows (algebraOf A) base old to (symbol .0)) (now (rows .exit)) r) ⌝ }
 {
@@ -158,17 +158,16 @@ fn try_lefts(
 
 // The same, if the symbol is a branch symbol.
 fn try_if_branch(
-    table: &[u32],
+    table: &TransitionTable,
     header: Header,
     symbol: Symbol,
     old: usize,
     to: usize,
-    rows: &mut [u32],
+    rows: &mut RowTable,
     kept: usize,
 ) -> Tried
-    requires { ⌜ (length (now table) ≡ 9216) × (header .states ≤ 24) × (symbol .0 < 32) × (old ≤ to) × (to ≤ 64)
-        × (length (now rows) ≡ 3264) × (kept ≤ 65) ⌝ }
-    ensures { λ r. ⌜ Few r × ((A : Automaton) → Read A header (now (table .entry))
+    requires { ⌜ (header .states ≤ 24) × (symbol .0 < 32) × (old ≤ to) × (to ≤ 64) × (kept ≤ 65) ⌝ }
+    ensures { λ r. ⌜ Few r × ((A : Automaton) → Headed A header (now (table .entry))
         → (base before : List (Candidate (algebraOf A))) → Keeps A base before kept (now (rows .entry)) → length base ≡ to
         → Tries A base before (flatMap (overRows (algebraOf A) base old to) (consIf (eqb (bit (header .branches) (symbol .0)) 1) (symbol .0) [])) (now (rows .exit)) r) ⌝ }
 {
@@ -180,9 +179,15 @@ fn try_if_branch(
 }
 
 // Tries the branch symbols in order.
-fn try_branches(table: &[u32], header: Header, old: usize, to: usize, rows: &mut [u32]) -> Tried
-    requires { ⌜ (length (now table) ≡ 9216) × (header .states ≤ 24) × (header .symbols ≤ 32) × (old ≤ to) × (to ≤ 64) × (length (now rows) ≡ 3264) ⌝ }
-    ensures { λ r. ⌜ Few r × ((A : Automaton) → Read A header (now (table .entry))
+fn try_branches(
+    table: &TransitionTable,
+    header: Header,
+    old: usize,
+    to: usize,
+    rows: &mut RowTable,
+) -> Tried
+    requires { ⌜ WithinLimits header × (old ≤ to) × (to ≤ 64) ⌝ }
+    ensures { λ r. ⌜ Few r × ((A : Automaton) → Headed A header (now (table .entry))
         → (base : List (Candidate (algebraOf A))) → Keeps A base base to (now (rows .entry)) → length base ≡ to
         → Tries A base base (flatMap (overRows (algebraOf A) base old to) (numbered 1 (header .branches) 0 (header .symbols))) (now (rows .exit)) r) ⌝ }
 {
@@ -198,16 +203,15 @@ fn try_branches(table: &[u32], header: Header, old: usize, to: usize, rows: &mut
 
 // Tries a leaf, if the symbol is a leaf symbol.
 fn try_if_leaf(
-    table: &[u32],
-    leaves: &[u32],
+    table: &TransitionTable,
+    leaves: &LeafTable,
     header: Header,
     symbol: Symbol,
-    rows: &mut [u32],
+    rows: &mut RowTable,
     kept: usize,
 ) -> Tried
-    requires { ⌜ (length (now table) ≡ 9216) × (length (now leaves) ≡ 1536) × (header .states ≤ 24) × (symbol .0 < 32)
-        × (length (now rows) ≡ 3264) × (kept ≤ 65) ⌝ }
-    ensures { λ r. ⌜ Few r × ((A : Automaton) → Read A header (now (table .entry)) → Leaves A (now (leaves .entry))
+    requires { ⌜ (header .states ≤ 24) × (symbol .0 < 32) × (kept ≤ 65) ⌝ }
+    ensures { λ r. ⌜ Few r × ((A : Automaton) → Ready A header (now (table .entry)) (now (leaves .entry))
         → (base before : List (Candidate (algebraOf A))) → Keeps A base before kept (now (rows .entry))
         → Tries A base before (flatMap (λ σ. leafCandidate (algebraOf A) σ ∷ []) (consIf (eqb (bit (header .branches) (symbol .0)) 0) (symbol .0) [])) (now (rows .exit)) r) ⌝ }
 {
@@ -219,9 +223,14 @@ fn try_if_leaf(
 }
 
 // Tries the leaf symbols in order, with no row before.
-fn try_leaves(table: &[u32], leaves: &[u32], header: Header, rows: &mut [u32]) -> Tried
-    requires { ⌜ (length (now table) ≡ 9216) × (length (now leaves) ≡ 1536) × (header .states ≤ 24) × (header .symbols ≤ 32) × (length (now rows) ≡ 3264) ⌝ }
-    ensures { λ r. ⌜ Few r × ((A : Automaton) → Read A header (now (table .entry)) → Leaves A (now (leaves .entry))
+fn try_leaves(
+    table: &TransitionTable,
+    leaves: &LeafTable,
+    header: Header,
+    rows: &mut RowTable,
+) -> Tried
+    requires { ⌜ WithinLimits header ⌝ }
+    ensures { λ r. ⌜ Few r × ((A : Automaton) → Ready A header (now (table .entry)) (now (leaves .entry))
         → Tries A [] [] (flatMap (λ σ. leafCandidate (algebraOf A) σ ∷ []) (numbered 0 (header .branches) 0 (header .symbols))) (now (rows .exit)) r) ⌝ }
 {
     let mut n: usize = 0;
@@ -236,17 +245,16 @@ fn try_leaves(table: &[u32], leaves: &[u32], header: Header, rows: &mut [u32]) -
 
 // A round: the leaf symbols, or the branch symbols over the n rows, of which the first `old` are old.
 pub fn round(
-    table: &[u32],
-    leaves: &[u32],
+    table: &TransitionTable,
+    leaves: &LeafTable,
     header: Header,
     height: usize,
     old: usize,
     n: usize,
-    rows: &mut [u32],
+    rows: &mut RowTable,
 ) -> Tried
-    requires { ⌜ (length (now table) ≡ 9216) × (length (now leaves) ≡ 1536) × (header .states ≤ 24) × (header .symbols ≤ 32) × (old ≤ n) × (n ≤ 64)
-        × (length (now rows) ≡ 3264) ⌝ }
-    ensures { λ r. ⌜ Few r × ((A : Automaton) → Read A header (now (table .entry)) → Leaves A (now (leaves .entry))
+    requires { ⌜ WithinLimits header × (old ≤ n) × (n ≤ 64) ⌝ }
+    ensures { λ r. ⌜ Few r × ((A : Automaton) → Ready A header (now (table .entry)) (now (leaves .entry))
         → (base : List (Candidate (algebraOf A))) → Keeps A base base n (now (rows .entry)) → length base ≡ n → (height ≡ 0 → base ≡ [])
         → Tries A base base (freshCandidates (algebraOf A) (alphabetOf A) height old base) (now (rows .exit)) r) ⌝ }
 {

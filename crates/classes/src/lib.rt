@@ -3,17 +3,19 @@ use automaton::Header;
 use model::Place;
 use model::Side;
 use model::Symbol;
+use overloops::LeafTable;
 use overloops::leaf_loops;
 use overloops::leaf_overloops;
 use overloops::node_loops;
 use overloops::node_overloops;
 use relation::Relation;
+use transitions::TransitionTable;
 ghost use mathlib.Core.Path.{_≡_};
 ghost use Prim.Native.Nat.{_<_, _≤_};
-ghost use lib.ListN.{length};
 ghost use Rattle.algorithms.specs.Automaton.{Automaton, Proper};
 ghost use Rattle.algorithms.specs.Saturate.{sameParts, algebraOf};
-ghost use Rattle.overloops.specs.Tables.{Of, Tabled, Leaves};
+ghost use Rattle.overloops.specs.Tables.{Tabled, Leaves};
+ghost use Rattle.overloops.specs.Ready.{Headed};
 ghost use Rattle.classes.specs.Classes.{partsIn};
 
 pub struct Class {
@@ -39,8 +41,8 @@ impl Class {
 }
 
 // The class of a leaf.
-pub fn leaf_class(leaves: &[u32], symbol: Symbol) -> Class
-    requires { ⌜ (length (now leaves) ≡ 1536) × (symbol .0 < 32) ⌝ }
+pub fn leaf_class(leaves: &LeafTable, symbol: Symbol) -> Class
+    requires { ⌜ symbol .0 < 32 ⌝ }
     ensures { λ r. ⌜ ((A : Automaton) → Proper A → Leaves A (now (leaves .entry)) → partsIn r ≡ algebraOf A .leafClass (symbol .0)) ⌝ }
 {
     Class {
@@ -50,8 +52,14 @@ pub fn leaf_class(leaves: &[u32], symbol: Symbol) -> Class
 }
 
 // The class of a node, from the classes of its parts.
-pub fn node_class(table: &[u32], states: usize, symbol: Symbol, l: Class, r: Class) -> Class
-    requires { ⌜ (length (now table) ≡ 9216) × (states ≤ 24) × (symbol .0 < 32) ⌝ }
+pub fn node_class(
+    table: &TransitionTable,
+    states: usize,
+    symbol: Symbol,
+    l: Class,
+    r: Class,
+) -> Class
+    requires { ⌜ (states ≤ 24) × (symbol .0 < 32) ⌝ }
     ensures { λ c. ⌜ ((A : Automaton) → Tabled A states (now (table .entry))
         → partsIn c ≡ algebraOf A .nodeClass (symbol .0) (partsIn l) (partsIn r)) ⌝ }
 {
@@ -64,10 +72,9 @@ pub fn node_class(table: &[u32], states: usize, symbol: Symbol, l: Class, r: Cla
 }
 
 // Whether a leaf alone is accepted.
-pub fn leaf_accepted(table: &[u32], header: Header, symbol: Symbol) -> bool
-    requires { ⌜ (length (now table) ≡ 9216) × (header .states ≤ 24) × (symbol .0 < 32) ⌝ }
-    ensures { λ b. ⌜ ((A : Automaton) → Of A header → Tabled A (header .states) (now (table .entry))
-        → b ≡ algebraOf A .leafAccepted (symbol .0)) ⌝ }
+pub fn leaf_accepted(table: &TransitionTable, header: Header, symbol: Symbol) -> bool
+    requires { ⌜ (header .states ≤ 24) × (symbol .0 < 32) ⌝ }
+    ensures { λ b. ⌜ ((A : Automaton) → Headed A header (now (table .entry)) → b ≡ algebraOf A .leafAccepted (symbol .0)) ⌝ }
 {
     leaf_loops(table, header.states as usize, symbol, Place::Root).meets(
         header.initial,
@@ -76,10 +83,15 @@ pub fn leaf_accepted(table: &[u32], header: Header, symbol: Symbol) -> bool
 }
 
 // Whether a node over parts of two classes is accepted.
-pub fn node_accepted(table: &[u32], header: Header, symbol: Symbol, l: Class, r: Class) -> bool
-    requires { ⌜ (length (now table) ≡ 9216) × (header .states ≤ 24) × (symbol .0 < 32) ⌝ }
-    ensures { λ b. ⌜ ((A : Automaton) → Of A header → Tabled A (header .states) (now (table .entry))
-        → b ≡ algebraOf A .nodeAccepted (symbol .0) (partsIn l) (partsIn r)) ⌝ }
+pub fn node_accepted(
+    table: &TransitionTable,
+    header: Header,
+    symbol: Symbol,
+    l: Class,
+    r: Class,
+) -> bool
+    requires { ⌜ (header .states ≤ 24) × (symbol .0 < 32) ⌝ }
+    ensures { λ b. ⌜ ((A : Automaton) → Headed A header (now (table .entry)) → b ≡ algebraOf A .nodeAccepted (symbol .0) (partsIn l) (partsIn r)) ⌝ }
 {
     let left = l.left;
     let right = r.right;

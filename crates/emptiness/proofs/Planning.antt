@@ -1,7 +1,7 @@
--- Laws of plans in a buffer: one row more; and of a verdict, told and written. A buffer that is long enough.
+-- Laws of plans in a buffer: one row more; of a verdict, told and written; and of the survey, by the length of the buffer.
 -- Assumes nothing.
 use Prim.Native.Nat.{ℕ, zero, suc, _+_, _*_, _≤_}
-use mathlib.Core.Path.{_≡_, refl, sym, ap, _∙_}
+use mathlib.Core.Path.{_≡_, refl, sym, ap, ap₂, _∙_}
 use mathlib.Core.Bool.{Bool, true, false}
 use mathlib.Core.List.{List, [], _∷_, _++_, map-append, append-assoc}
 use native.Mathlib.Omega.{arith}
@@ -16,9 +16,12 @@ use Rattle.model.proofs.Turns.{countFrom-snoc}
 use Rattle.refusal.specs.Checks.{refuseIf}
 use Rattle.refusal.specs.declared.Check.{Check}
 use Rattle.refusal.specs.declared.Fault.{Fault}
+use Rattle.refusal.specs.declared.Refusal.{Refusal}
 use Rattle.refusal.proofs.Passed.{clash}
+use Rattle.algorithms.specs.Automaton.{Automaton}
+use Rattle.algorithms.specs.Saturate.{saturationOf}
 use Rattle.representatives.specs.Stored.{originOf, originIn, originsIn}
-use Rattle.emptiness.specs.Surveyed.{planBytes, surveyOf, written, bufferCheck}
+use Rattle.emptiness.specs.Surveyed.{planBytes, surveyOf, written, bufferCheck, answered, surveyedBy}
 use Rattle.saturation.specs.Ends.{verdictOf, FoundFew}
 use Rattle.emptiness.specs.declared.Survey.{Survey}
 use Rattle.representatives.specs.declared.Origin.{Origin}
@@ -96,6 +99,8 @@ verdict-told v r r′ rows plan plan′ e f g = rw (e, f, g) (as-told r′ rows 
 pub found-few : {r : Saturated} {h n : ℕ} {o : Origin} → r ≡ Saturated.Found h n o → FoundFew r → n ≤ 64
 found-few e f = rw e at f
 
+-- ---- line 13 of the table
+
 -- a buffer that passes its check
 pub long-enough : (buffer : List ℕ) → bufferCheck buffer ≡ Check.Passed → 195 ≤ length buffer
 unfolding bufferCheck
@@ -104,3 +109,14 @@ long-enough buffer e = by (ltb (length buffer) 195) refl e
     by : (t : Bool) → ltb (length buffer) 195 ≡ t → refuseIf t Fault.Buffer 2 195 ≡ Check.Passed → 195 ≤ length buffer
     by true f p = clash (cc)
     by false f p = ltb-false (length buffer) 195 f
+
+-- the survey, by what line 13 says of the buffer
+module _ (A : Automaton) (before : List ℕ) where
+  pub survey-short : (r : Refusal) → bufferCheck before ≡ Check.Refused r → answered (Survey.Refused r) before ≡ surveyedBy A before
+  unfolding surveyedBy
+  survey-short r e = rw e refl
+
+  pub survey-long : (r : Survey) (after : List ℕ) → bufferCheck before ≡ Check.Passed → r ≡ surveyOf (saturationOf A) → after ≡ written (saturationOf A) before
+      → answered r after ≡ surveyedBy A before
+  unfolding surveyedBy
+  survey-long r after e f g = rw e (ap₂ answered f g)

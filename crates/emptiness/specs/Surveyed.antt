@@ -10,9 +10,7 @@ use Rattle.algorithms.specs.Saturate.{saturationOf}
 use Rattle.refusal.specs.Checks.{refuseIf}
 use Rattle.refusal.specs.declared.Check.{Check}
 use Rattle.refusal.specs.declared.Fault.{Fault}
-use Rattle.automaton.specs.File.{readAutomaton}
-use Rattle.automaton.specs.declared.Header.{Header}
-use Rattle.transitions.specs.Transitions.{automatonOf}
+use Rattle.transitions.specs.Transitions.{byAutomaton}
 use Rattle.emptiness.specs.declared.Survey.{Survey}
 
 -- "Plan row: symbol, left row, right row, 255 255 for a leaf."
@@ -48,10 +46,10 @@ abbrev pub afterCheck : Check → Automaton → (buffer : List ℕ) → Answered
 afterCheck (Check.Refused r) A buffer = answered (Survey.Refused r) buffer
 afterCheck Check.Passed A buffer = answered (surveyOf (saturationOf A)) (written (saturationOf A) buffer)
 
--- the survey by the automaton of a header and the joined contents p, with a lent buffer
-unfoldable pub surveyedBy : Header → (p buffer : List ℕ) → Answered
-surveyedBy h p buffer = afterCheck (bufferCheck buffer) (automatonOf h p) buffer
+-- the survey by an automaton, with a lent buffer
+unfoldable pub surveyedBy : Automaton → (buffer : List ℕ) → Answered
+surveyedBy A buffer = afterCheck (bufferCheck buffer) A buffer
 
 -- of an automaton's file w
 unfoldable pub surveyed : (w buffer : List ℕ) → Answered
-surveyed w buffer = readAutomaton w (λ r. answered (Survey.Refused r) buffer) (λ h p. surveyedBy h p buffer)
+surveyed w buffer = byAutomaton w (λ r. answered (Survey.Refused r) buffer) (λ A. surveyedBy A buffer)

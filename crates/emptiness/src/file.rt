@@ -5,20 +5,20 @@ use crate::plan::write_plan;
 use approximation::is_clear;
 use automaton::Header;
 use automaton::file::Parsed;
+use overloops::LeafTable;
 use refusal::Check;
 use refusal::Fault;
 use refusal::refused;
 use saturation::Saturated;
 use saturation::saturate;
+use transitions::TransitionTable;
 ghost use mathlib.Core.Path.{_≡_};
 ghost use Prim.Native.Nat.{_≤_};
 ghost use lib.ListN.{length};
 ghost use Rattle.algorithms.specs.Automaton.{Automaton};
 ghost use Rattle.algorithms.specs.Saturate.{saturationOf};
-ghost use Rattle.blocks.specs.Blocks.{content};
-ghost use Rattle.overloops.specs.Tables.{Leaves};
-ghost use Rattle.overloops.specs.Prepared.{Prepared};
-ghost use Rattle.candidates.specs.Tries.{Read};
+ghost use Rattle.automaton.specs.File.{WithinLimits};
+ghost use Rattle.overloops.specs.Ready.{Ready};
 ghost use Rattle.emptiness.specs.Surveyed.{bufferCheck, answered, surveyOf, written, surveyedBy, surveyed};
 ghost use Rattle.emptiness.specs.Checked.{checkedBy, checked};
 ghost use Rattle.emptiness.specs.Demand3.{Demand3, Demand3Quick};
@@ -34,9 +34,14 @@ fn buffer_check(plan: &[u8]) -> Check
 }
 
 // The survey of an automaton that was prepared, with a buffer that is long enough.
-fn survey_read(table: &[u32], leaves: &[u32], header: Header, plan: &mut [u8]) -> Survey
-    requires { ⌜ (length (now table) ≡ 9216) × (length (now leaves) ≡ 1536) × (header .states ≤ 24) × (header .symbols ≤ 32) × (195 ≤ length (now plan)) ⌝ }
-    ensures { λ r. ⌜ ((A : Automaton) → Read A header (now (table .entry)) → Leaves A (now (leaves .entry))
+fn survey_read(
+    table: &TransitionTable,
+    leaves: &LeafTable,
+    header: Header,
+    plan: &mut [u8],
+) -> Survey
+    requires { ⌜ WithinLimits header × (195 ≤ length (now plan)) ⌝ }
+    ensures { λ r. ⌜ ((A : Automaton) → Ready A header (now (table .entry)) (now (leaves .entry))
         → (r ≡ surveyOf (saturationOf A)) × (now (plan .exit) ≡ written (saturationOf A) (now (plan .entry)))) ⌝ }
 {
     let mut kept = [0u32; 3264];
@@ -56,10 +61,15 @@ fn survey_read(table: &[u32], leaves: &[u32], header: Header, plan: &mut [u8]) -
 }
 
 // The survey by an automaton that was prepared: where a tree is found, a plan that builds one goes to the front of the buffer.
-pub fn survey_prepared(header: Header, table: &[u32], leaves: &[u32], plan: &mut [u8]) -> Survey
-    requires { ⌜ Prepared header (now table) (now leaves) ⌝ }
-    ensures { λ r. ⌜ ((p : Prepared header (now (table .entry)) (now (leaves .entry)))
-        → answered r (now (plan .exit)) ≡ surveyedBy header (content (p .file)) (now (plan .entry))) ⌝ }
+pub fn survey_prepared(
+    header: Header,
+    table: &TransitionTable,
+    leaves: &LeafTable,
+    plan: &mut [u8],
+) -> Survey
+    requires { ⌜ WithinLimits header ⌝ }
+    ensures { λ r. ⌜ ((A : Automaton) → Ready A header (now (table .entry)) (now (leaves .entry))
+        → answered r (now (plan .exit)) ≡ surveyedBy A (now (plan .entry))) ⌝ }
 {
     if let Check::Refused(refusal) = buffer_check(plan) {
         return Survey::Refused(refusal);
@@ -72,18 +82,19 @@ pub fn survey(file: &[u8], plan: &mut [u8]) -> Survey
     ensures equals { λ r. ⌜ answered r (now (plan .exit)) ≡ surveyed (now (file .entry)) (now (plan .entry)) ⌝ }
     ensures right { λ r. ⌜ Demand3 (now (file .entry)) (now (plan .entry)) (answered r (now (plan .exit))) ⌝ }
 {
+    let mut contents = [0u8; 3048];
     let mut table = [0u32; 9216];
     let mut leaves = [0u32; 1536];
-    match overloops::prepare(file, &mut table, &mut leaves) {
+    match overloops::prepare(file, &mut contents, &mut table, &mut leaves) {
         Parsed::Refused(refusal) => Survey::Refused(refusal),
         Parsed::Read(header) => survey_prepared(header, &table, &leaves, plan),
     }
 }
 
 // The quick check by an automaton that was prepared.
-pub fn quick_prepared(header: Header, table: &[u32], leaves: &[u32]) -> Quick
-    requires { ⌜ Prepared header (now table) (now leaves) ⌝ }
-    ensures { λ r. ⌜ ((p : Prepared header (now (table .entry)) (now (leaves .entry))) → r ≡ checkedBy header (content (p .file))) ⌝ }
+pub fn quick_prepared(header: Header, table: &TransitionTable, leaves: &LeafTable) -> Quick
+    requires { ⌜ WithinLimits header ⌝ }
+    ensures { λ r. ⌜ ((A : Automaton) → Ready A header (now (table .entry)) (now (leaves .entry)) → r ≡ checkedBy A) ⌝ }
 {
     if is_clear(table, leaves, header) {
         Quick::Clear
@@ -97,9 +108,10 @@ pub fn quick(file: &[u8]) -> Quick
     ensures equals { λ r. ⌜ r ≡ checked (now (file .entry)) ⌝ }
     ensures right { λ r. ⌜ Demand3Quick (now (file .entry)) r ⌝ }
 {
+    let mut contents = [0u8; 3048];
     let mut table = [0u32; 9216];
     let mut leaves = [0u32; 1536];
-    match overloops::prepare(file, &mut table, &mut leaves) {
+    match overloops::prepare(file, &mut contents, &mut table, &mut leaves) {
         Parsed::Refused(refusal) => Quick::Refused(refusal),
         Parsed::Read(header) => quick_prepared(header, &table, &leaves),
     }

@@ -1,6 +1,7 @@
 // The plan of a survey, written into a lent buffer: three bytes a row.
 use representatives::Origin;
 use representatives::Row;
+use representatives::RowTable;
 use representatives::origin_at;
 ghost use mathlib.Core.Path.{_≡_};
 ghost use mathlib.Core.List.{[], _∷_, _++_};
@@ -22,8 +23,8 @@ fn put_row(plan: &mut [u8], row: Row, origin: Origin)
 }
 
 // Writes the first n rows, and then one more.
-pub fn write_plan(rows: &[u32], n: usize, last: Origin, plan: &mut [u8])
-    requires { ⌜ (length (now rows) ≡ 3264) × (n ≤ 64) × (195 ≤ length (now plan)) ⌝ }
+pub fn write_plan(rows: &RowTable, n: usize, last: Origin, plan: &mut [u8])
+    requires { ⌜ (n ≤ 64) × (195 ≤ length (now plan)) ⌝ }
     ensures { λ _. ⌜ now (plan .exit) ≡ planBytes (originsIn (now (rows .entry)) n ++ originOf last ∷ []) ++ drop (3 * (n + 1)) (now (plan .entry)) ⌝ }
 {
     for i in 0..n {

@@ -16,6 +16,9 @@ ghost use Rattle.overloops.specs.Tables.{PutFirst};
 ghost use Rattle.classes.specs.Classes.{partsIn};
 ghost use Rattle.representatives.specs.Stored.{originOf, originIn, classIn, KnownIn, Stored, Written};
 
+// 51 words for each of 64 rows.
+pub type RowTable = [u32; 3264];
+
 // The number of a row: neither a symbol nor a state.
 pub struct Row(pub u8);
 
@@ -27,8 +30,8 @@ pub struct Origin {
 }
 
 // The class of a row.
-pub fn class_at(rows: &[u32], row: Row) -> Class
-    requires { ⌜ (length (now rows) ≡ 3264) × (row .0 < 64) ⌝ }
+pub fn class_at(rows: &RowTable, row: Row) -> Class
+    requires { ⌜ row .0 < 64 ⌝ }
     ensures { λ r. ⌜ partsIn r ≡ classIn (now (rows .entry)) (row .0) ⌝ }
 {
     let at = row.0 as usize * 51;
@@ -39,8 +42,8 @@ pub fn class_at(rows: &[u32], row: Row) -> Class
 }
 
 // How the tree of a row is built.
-pub fn origin_at(rows: &[u32], row: Row) -> Origin
-    requires { ⌜ (length (now rows) ≡ 3264) × (row .0 < 64) ⌝ }
+pub fn origin_at(rows: &RowTable, row: Row) -> Origin
+    requires { ⌜ row .0 < 64 ⌝ }
     ensures { λ r. ⌜ originOf r ≡ originIn (now (rows .entry)) (row .0) ⌝ }
 {
     let at = row.0 as usize * 51;
@@ -66,8 +69,8 @@ fn same_at(rows: &[u32], row: Row, left: &[u32], right: &[u32]) -> bool
 }
 
 // Whether a class is that of one of the first n rows.
-fn is_known(rows: &[u32], n: usize, left: &[u32], right: &[u32]) -> bool
-    requires { ⌜ (length (now rows) ≡ 3264) × (n ≤ 64) × (length (now left) ≡ 24) × (length (now right) ≡ 24) ⌝ }
+fn is_known(rows: &RowTable, n: usize, left: &[u32], right: &[u32]) -> bool
+    requires { ⌜ (n ≤ 64) × (length (now left) ≡ 24) × (length (now right) ≡ 24) ⌝ }
     ensures { λ r. ⌜ KnownIn r (now (rows .entry)) n (parts (now (left .entry)) (now (right .entry))) ⌝ }
 {
     for i in 0..n {
@@ -89,8 +92,8 @@ fn put_origin(rows: &mut [u32], at: usize, origin: Origin)
 }
 
 // Writes a row.
-fn store(rows: &mut [u32], row: Row, origin: Origin, class: Class)
-    requires { ⌜ (length (now rows) ≡ 3264) × (row .0 < 64) ⌝ }
+fn store(rows: &mut RowTable, row: Row, origin: Origin, class: Class)
+    requires { ⌜ row .0 < 64 ⌝ }
     ensures { λ _. ⌜ Written (row .0) (originOf origin) (partsIn class) (now (rows .entry)) (now (rows .exit)) ⌝ }
 {
     let at = row.0 as usize * 51;
@@ -100,8 +103,8 @@ fn store(rows: &mut [u32], row: Row, origin: Origin, class: Class)
 }
 
 // Keeps a tree as one more row, if its class is new. The count of the rows goes in and out; over 64 it is 65, and no more are stored.
-pub fn keep(rows: &mut [u32], n: usize, origin: Origin, class: Class) -> usize
-    requires { ⌜ (length (now rows) ≡ 3264) × (n ≤ 65) ⌝ }
+pub fn keep(rows: &mut RowTable, n: usize, origin: Origin, class: Class) -> usize
+    requires { ⌜ n ≤ 65 ⌝ }
     ensures { λ r. ⌜ (r ≤ 65) × ((A : Automaton) (kept : List (Candidate (algebraOf A))) (c : Candidate (algebraOf A)) → Stored A (now (rows .entry)) n kept
         → originOf origin ≡ c .row → partsIn class ≡ c .class
         → Stored A (now (rows .exit)) r (keepIfNew (algebraOf A) (known (algebraOf A) (c .class) kept) kept c)) ⌝ }

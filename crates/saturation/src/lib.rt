@@ -2,14 +2,15 @@
 use automaton::Header;
 use candidates::Tried;
 use candidates::round;
+use overloops::LeafTable;
 use representatives::Origin;
+use representatives::RowTable;
+use transitions::TransitionTable;
 ghost use mathlib.Core.Path.{_≡_};
-ghost use Prim.Native.Nat.{_≤_};
-ghost use lib.ListN.{length};
 ghost use Rattle.algorithms.specs.Automaton.{Automaton};
 ghost use Rattle.algorithms.specs.Saturate.{saturationOf};
-ghost use Rattle.overloops.specs.Tables.{Leaves};
-ghost use Rattle.candidates.specs.Tries.{Read};
+ghost use Rattle.automaton.specs.File.{WithinLimits};
+ghost use Rattle.overloops.specs.Ready.{Ready};
 ghost use Rattle.saturation.specs.Ends.{verdictOf, FoundFew};
 
 // How the rounds end: Found at a height after so many rows, with the accepted tree; Open or Empty at a height.
@@ -24,10 +25,14 @@ pub enum Saturated {
 }
 
 // The rounds, from no row on. Each but the last adds a row, so that they end.
-pub fn saturate(table: &[u32], leaves: &[u32], header: Header, rows: &mut [u32]) -> Saturated
-    requires { ⌜ (length (now table) ≡ 9216) × (length (now leaves) ≡ 1536) × (header .states ≤ 24) × (header .symbols ≤ 32)
-        × (length (now rows) ≡ 3264) ⌝ }
-    ensures { λ r. ⌜ FoundFew r × ((A : Automaton) → Read A header (now (table .entry)) → Leaves A (now (leaves .entry))
+pub fn saturate(
+    table: &TransitionTable,
+    leaves: &LeafTable,
+    header: Header,
+    rows: &mut RowTable,
+) -> Saturated
+    requires { ⌜ WithinLimits header ⌝ }
+    ensures { λ r. ⌜ FoundFew r × ((A : Automaton) → Ready A header (now (table .entry)) (now (leaves .entry))
         → saturationOf A ≡ verdictOf r (now (rows .exit))) ⌝ }
 {
     let mut old: usize = 0;

@@ -39,15 +39,15 @@ formed-spec =
       search needs,
       λ A k.
           let at = c .before .before .before .loop in
-          let x = partsIn (c .before .before .before .before .before .before .args .sets) in
-          let branches = c .before .before .before .before .before .before .args .header .branches in
+          let x = partsIn (c .before .before .before .before .before .args .sets) in
+          let branches = c .before .before .before .before .before .args .header .branches in
           let turn = gathered-turn x (record { left = search needs; right = search needs }) (λ σ. algebraOf A .nodeClass σ x x) (full-nodeClass A x x) 1 branches (at .symbol) in
           ⊎-elim
           (λ w. turn true _ _ _ (sym (c .before .is-branch .ensures) ∙ w .0 .taken) (at .inv .1 A k) (w .1 .ensures A k) (ap partsIn (w .3) ∙ w .2 .ensures))
           (λ w. turn false _ _ _ (sym (c .before .is-branch .ensures) ∙ w .0 .left) (at .inv .1 A k) refl (ap partsIn (w .1)))
           (c .if1 .came),
     ))
-    (λ c. λ A a k.
-    let h = c .before .before .before .before .args .header in
+    (λ c. λ A k.
+    let h = c .before .before .before .args .header in
     let end : c .before .loop .symbol ≡ h .symbols = search needs in
-    rw end at (c .before .loop .inv .1 A k) ∙ branches-gathered A h a _))
+    rw end at (c .before .loop .inv .1 A (k .tabled)) ∙ branches-gathered A h _ k _))

@@ -12,7 +12,7 @@ pub is-clear-spec : {M : Type 1} → statement M
 unfolding clear? leastParts
 is-clear-spec =
     tie.close
-    (tie.spec (λ c κs. search needs) (λ c κs. search needs) (λ c κs. search needs) (λ c κs. search needs) (λ c. λ A o a k l.
-    let sets-are = c .before .before .settled .ensures A a k ∙ ap (settled A 1153) (c .before .before .before .leaf-sets .ensures A a (k .proper) l) in
-    let root-is = c .before .root-loops .ensures A a k ∙ ap (rootSide A) sets-are in
-    ap not (accepted-by A _ _ _ _ _ (o .initial) (o .accepting) root-is (c .meets .ensures))))
+    (tie.spec (λ c κs. search needs) (λ c κs. search needs) (λ c κs. search needs) (λ c κs. search needs) (λ c. λ A k.
+    let sets-are = c .before .before .settled .ensures A (k .headed) ∙ ap (settled A 1153) (c .before .before .before .leaf-sets .ensures A _ k) in
+    let root-is = c .before .root-loops .ensures A (k .headed) ∙ ap (rootSide A) sets-are in
+    ap not (accepted-by A _ _ _ _ _ (k .headed .initial) (k .headed .accepting) root-is (c .meets .ensures))))

@@ -40,14 +40,14 @@ leaf-sets-spec =
       search needs,
       λ A P k.
           let at = c .before .before .before .loop in
-          let branches = c .before .before .before .before .before .before .before .args .header .branches in
+          let branches = c .before .before .before .before .before .before .args .header .branches in
           let turn = gathered-turn nothing full-nothing (algebraOf A .leafClass) (full-leafClass A) 0 branches (at .symbol) in
           ⊎-elim
           (λ w. turn false _ _ _ (sym (c .before .is-branch .ensures) ∙ not-true _ (w .0 .taken)) (at .inv .1 A P k) (w .1 .ensures A P k) (ap partsIn (w .3) ∙ w .2 .ensures))
           (λ w. turn true _ _ _ (sym (c .before .is-branch .ensures) ∙ not-false _ (w .0 .left)) (at .inv .1 A P k) refl (ap partsIn (w .1)))
           (c .if1 .came),
     ))
-    (λ c. λ A a P k.
-    let h = c .before .before .before .before .before .args .header in
+    (λ c. λ A t k.
+    let h = c .before .before .before .before .args .header in
     let end : c .before .loop .symbol ≡ h .symbols = search needs in
-    rw end at (c .before .loop .inv .1 A P k) ∙ leaves-gathered A h a))
+    rw end at (c .before .loop .inv .1 A (k .headed .tabled .proper) (k .leaves-are)) ∙ leaves-gathered A h t (k .headed)))

@@ -48,8 +48,8 @@ root-loops-spec =
       search needs,
       λ A k.
           let at = c .before .before .before .loop in
-          let x = partsIn (c .before .before .before .before .before .before .before .before .before .args .sets) in
-          let branches = c .before .before .before .before .before .before .before .before .before .args .header .branches in
+          let x = partsIn (c .before .before .before .before .before .before .before .before .args .sets) in
+          let branches = c .before .before .before .before .before .before .before .before .args .header .branches in
           ⊎-elim
           (λ w. ap rowsIn (w .3) ∙ w .2 .ensures ∙ ap₂ joined (at .inv .1 A k) (w .1 .ensures A k)
           ∙ root-branch A x branches (at .symbol) (sym (c .before .is-branch .ensures) ∙ w .0 .taken))
@@ -57,7 +57,7 @@ root-loops-spec =
           ∙ root-leaf A x branches (at .symbol) (sym (c .before .is-branch .ensures) ∙ w .0 .left))
           (c .if1 .came),
     ))
-    (λ c. λ A a k.
-    let h = c .before .before .before .before .before .before .before .args .header in
+    (λ c. λ A k.
+    let h = c .before .before .before .before .before .before .args .header in
     let end : c .before .loop .symbol ≡ h .symbols = search needs in
-    rw end at (c .before .loop .inv .1 A k) ∙ root-gathered A h a _))
+    rw end at (c .before .loop .inv .1 A (k .tabled)) ∙ root-gathered A h _ k _))

@@ -8,9 +8,8 @@ use native.Mathlib.Omega.{arith}
 use Rattle.algorithms.specs.Automaton.{Automaton}
 use Rattle.algorithms.specs.Saturate.{Parts, sameParts}
 use Rattle.algorithms.specs.Approximate.{formed, settled}
-use Rattle.overloops.specs.Tables.{Tabled}
+use Rattle.overloops.specs.Ready.{Headed}
 use Rattle.classes.specs.Classes.{partsIn}
-use Rattle.classes.specs.Classes.{HasSymbols}
 use Rattle.approximation.proofs.settled.Statement.{statement}
 use Rattle.approximation.proofs.settled.Tie as tie
 
@@ -35,7 +34,7 @@ ends A turn x l = let none : 1153 - turn ≡ 0 = omega arith in rw none
 abbrev Inv-loop : tie.InvT-loop
 Inv-loop table header sets₀ turn₀ sets turn =
     (turn ≤ 1153)
-    × ((A : Automaton) → HasSymbols A header → Tabled A (header .states) table → settled A (1153 - turn) (partsIn sets) ≡ settled A 1153 (partsIn sets₀))
+    × ((A : Automaton) → Headed A header table → settled A (1153 - turn) (partsIn sets) ≡ settled A 1153 (partsIn sets₀))
 
 abbrev μ-loop : tie.MeasureT-loop
 μ-loop table header sets₀ turn₀ sets turn = 1153 - turn
@@ -46,22 +45,22 @@ settled-spec =
     (tie.spec
     Inv-loop
     μ-loop
-    (λ c. (search needs, λ A a k. refl))
+    (λ c. (search needs, λ A k. refl))
     (λ c κs. search needs)
     (λ c κs. search needs)
-    (λ c. λ A a k.
+    (λ c. λ A k.
     let at = c .before .before .before .before .loop in
-    let formed-is = c .before .before .formed .ensures A a k in
+    let formed-is = c .before .before .formed .ensures A k in
     let same-is = c .before .same .ensures in
-    sym (stops A (at .turn) _ _ (omega arith) formed-is (sym same-is ∙ c .if1 .taken)) ∙ at .inv .1 A a k)
+    sym (stops A (at .turn) _ _ (omega arith) formed-is (sym same-is ∙ c .if1 .taken)) ∙ at .inv .1 A k)
     (λ c. search needs)
     (λ c. search needs)
     (λ c. (
       search needs,
-      λ A a k.
+      λ A k.
           let at = c .before .before .before .before .loop in
-          let formed-is = c .before .before .formed .ensures A a k in
+          let formed-is = c .before .before .formed .ensures A k in
           let same-is = c .before .same .ensures in
-          sym (goes A (at .turn) _ _ (omega arith) formed-is (sym same-is ∙ c .if1 .left)) ∙ at .inv .1 A a k,
+          sym (goes A (at .turn) _ _ (omega arith) formed-is (sym same-is ∙ c .if1 .left)) ∙ at .inv .1 A k,
     ))
-    (λ c. λ A a k. sym (ends A (c .before .loop .turn) _ (omega arith)) ∙ c .before .loop .inv .1 A a k))
+    (λ c. λ A k. sym (ends A (c .before .loop .turn) _ (omega arith)) ∙ c .before .loop .inv .1 A k))

@@ -11,16 +11,10 @@ round-spec =
     (tie.spec
     (λ c κs. search needs)
     (λ c κs. search needs)
-    (λ c. search needs)
     (λ c.
-    let zero = c .before .before .before .before .if1 .taken in (
-      c .before .before .try-leaves .ensures .0,
-      λ A k t base h e f.
-          leaves-tried A _ _ k _ base _ zero (f zero) (c .before .before .try-leaves .ensures .1 A k t),
-    ))
-    (λ c. search needs)
+    let zero = c .before .before .if1 .taken in
+    (c .try-leaves .ensures .0, λ A k base h e f. leaves-tried A _ _ (k .headed) _ base _ zero (f zero) (c .try-leaves .ensures .1 A k)))
     (λ c. (
-      c .before .before .try-branches .ensures .0,
-      λ A k t base h e f.
-          branches-tried A _ _ k _ base _ _ (c .before .before .before .before .if1 .left) e (c .before .before .try-branches .ensures .1 A k base h e),
+      c .try-branches .ensures .0,
+      λ A k base h e f. branches-tried A _ _ (k .headed) _ base _ _ (c .before .before .if1 .left) e (c .try-branches .ensures .1 A (k .headed) base h e),
     )))

@@ -8,7 +8,8 @@ use lib.ListN.{length}
 use Rattle.model.specs.Saturation.{Candidate}
 use Rattle.algorithms.specs.Automaton.{Automaton, numbered}
 use Rattle.algorithms.specs.Saturate.{algebraOf}
-use Rattle.candidates.specs.Tries.{Read, overRows, Keeps, Tries}
+use Rattle.overloops.specs.Ready.{Headed}
+use Rattle.candidates.specs.Tries.{overRows, Keeps, Tries}
 use Rattle.candidates.specs.declared.Tried.{Tried}
 use Rattle.classes.proofs.Symbols.{set-snoc, set-split}
 use Rattle.candidates.proofs.Trying.{begun, turn, ended, few-kept}
@@ -17,7 +18,7 @@ use Rattle.candidates.proofs.try_branches.Tie as tie
 
 abbrev Inv-loop : tie.InvT-loop
 Inv-loop table header old to rows₀ n₀ symbol₀ symbol-end rows n symbol =
-    (length rows ≡ 3264) × (symbol ≤ header .symbols) × (n ≤ 65) × ((A : Automaton) → Read A header table → (base : List (Candidate (algebraOf A)))
+    (symbol ≤ header .symbols) × (n ≤ 65) × ((A : Automaton) → Headed A header table → (base : List (Candidate (algebraOf A)))
     → Keeps A base base to rows₀ → length base ≡ to
     → Tries A base base (flatMap (overRows (algebraOf A) base old to) (numbered 1 (header .branches) 0 symbol)) rows (Tried.Kept n))
 
@@ -25,10 +26,10 @@ abbrev μ-loop : tie.MeasureT-loop
 μ-loop table header old to rows₀ n₀ symbol₀ symbol-end rows n symbol = header .symbols - symbol
 
 -- one turn
-turned : (c : tie.After-try-if-branch Inv-loop μ-loop) (A : Automaton) → Read A (c .before .before .before .before .before .before .args .header) (c .before .before .before .before .before .before .args .table .now) → (base : List (Candidate (algebraOf A)))
-    → Keeps A base base (c .before .before .before .before .before .before .args .to) (c .before .before .before .before .before .before .args .rows .now) → length base ≡ c .before .before .before .before .before .before .args .to → {r : Tried} → c .try-if-branch .result ≡ r
-    → Tries A base base (flatMap (overRows (algebraOf A) base (c .before .before .before .before .before .before .args .old) (c .before .before .before .before .before .before .args .to)) (numbered 1 (c .before .before .before .before .before .before .args .header .branches) 0 (c .before .before .before .loop .symbol + 1))) (c .try-if-branch .last .1 .1 .1 .1 .1 .0) r
-turned c A k base h e = turn A (set-snoc _ 1 (c .before .before .before .before .before .before .args .header .branches) (c .before .before .before .loop .symbol)) (c .before .before .before .loop .inv .3 A k base h e) (λ g. c .try-if-branch .ensures .1 A k base _ g e)
+turned : (c : tie.After-try-if-branch Inv-loop μ-loop) (A : Automaton) → Headed A (c .before .before .before .before .args .header) (c .before .before .before .before .args .table .now) → (base : List (Candidate (algebraOf A)))
+    → Keeps A base base (c .before .before .before .before .args .to) (c .before .before .before .before .args .rows .now) → length base ≡ c .before .before .before .before .args .to → {r : Tried} → c .try-if-branch .result ≡ r
+    → Tries A base base (flatMap (overRows (algebraOf A) base (c .before .before .before .before .args .old) (c .before .before .before .before .args .to)) (numbered 1 (c .before .before .before .before .args .header .branches) 0 (c .before .before .before .loop .symbol + 1))) (c .try-if-branch .last .1 .1 .1 .1 .1 .0) r
+turned c A k base h e = turn A (set-snoc _ 1 (c .before .before .before .before .args .header .branches) (c .before .before .before .loop .symbol)) (c .before .before .before .loop .inv .2 A k base h e) (λ g. c .try-if-branch .ensures .1 A k base _ g e)
 
 pub try-branches-spec : {M : Type 1} → statement M
 unfolding flatMap
@@ -37,19 +38,17 @@ try-branches-spec =
     (tie.spec
     Inv-loop
     μ-loop
-    (λ c. (search needs, search needs, search needs, λ A k base h e. begun A refl h))
+    (λ c. (search needs, search needs, λ A k base h e. begun A refl h))
     (λ c κs. search needs)
     (λ c. search needs)
-    (λ c. search needs)
-    (λ c. (tt, λ A k base h e. ended A _ (set-split _ 1 (c .before .before .before .before .before .before .before .before .before .before .before .args .header .branches) (c .before .before .before .before .before .before .before .before .loop .symbol) (c .before .before .before .before .before .before .before .before .before .before .before .args .header .symbols) (search needs)) (turned (c .before .before .before .before .before) A k base h e (c .before .origin .given .1))))
-    (λ c. search needs)
+    (λ c. (tt, λ A k base h e. ended A _ (set-split _ 1 (c .before .before .before .before .before .before .before .args .header .branches) (c .before .before .before .before .before .before .loop .symbol) (c .before .before .before .before .before .before .before .args .header .symbols) (search needs)) (turned (c .before .before .before) A k base h e (c .before .origin .given .1))))
     (λ c. search needs)
     (λ c. search needs)
-    (λ c. (search needs, search needs, few-kept (c .before .m .given .1) (c .before .before .before .before .before .try-if-branch .ensures .0), λ A k base h e. turned (c .before .before .before .before .before) A k base h e (c .before .m .given .1)))
     (λ c. search needs)
+    (λ c. (search needs, few-kept (c .before .m .given .1) (c .before .before .before .try-if-branch .ensures .0), λ A k base h e. turned (c .before .before .before) A k base h e (c .before .m .given .1)))
     (λ c. (
-      c .before .loop .inv .2,
+      c .before .loop .inv .1,
       λ A k base h e.
-          let end : c .before .loop .symbol ≡ c .before .before .before .before .args .header .symbols = search needs in
-          rw end at (c .before .loop .inv .3 A k base h e),
+          let end : c .before .loop .symbol ≡ c .before .before .args .header .symbols = search needs in
+          rw end at (c .before .loop .inv .2 A k base h e),
     )))

@@ -14,12 +14,9 @@ try-if-branch-spec =
     (tie.spec
     (λ c κs. search needs)
     (λ c κs. search needs)
-    (λ c. search needs)
-    (λ c.
-    let test = c .before .before .before .before in (
-      c .before .before .try-lefts .ensures .0,
+    (λ c. (
+      c .try-lefts .ensures .0,
       λ A k base before h e.
-          of-one A (overRows (algebraOf A) base _ _) _ (in-set _ _ (test .before .is-branch .ensures) (test .if1 .taken) .0)
-          (c .before .before .try-lefts .ensures .1 A k base before h e),
+          of-one A (overRows (algebraOf A) base _ _) _ (in-set _ _ (c .before .before .before .is-branch .ensures) (c .before .before .if1 .taken) .0) (c .try-lefts .ensures .1 A k base before h e),
     ))
     (λ c. (search needs, λ A k base before h e. of-none A (overRows (algebraOf A) base _ _) (not-in-set _ _ (c .before .is-branch .ensures) (c .if1 .left) .0) h)))

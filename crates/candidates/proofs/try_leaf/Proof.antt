@@ -12,15 +12,14 @@ try-leaf-spec =
     tie.close
     (tie.spec
     (λ c κs. search needs)
-    (λ c. (tt, λ A k l base kept h. one-accepted A (leafCandidate (algebraOf A) _) h _ (leaf-accepted-is A _ (c .before .leaf-accepted .ensures A (k .of) (k .tabled))) (c .if1 .taken) (leaf-row-is A _)))
+    (λ c. (tt, λ A k base kept h. one-accepted A (leafCandidate (algebraOf A) _) h _ (leaf-accepted-is A _ (c .before .leaf-accepted .ensures A (k .headed))) (c .if1 .taken) (leaf-row-is A _)))
     (λ c κs. search needs)
     (λ c κs. search needs)
-    (λ c. search needs)
     (λ c.
-    let test = c .before .before .before .before .before in
-    let made = c .before .before .keep in (
-      made .ensures .0,
-      λ A k l base kept h.
-          one-kept A (leafCandidate (algebraOf A) _) h _ _ (leaf-accepted-is A _ (test .before .leaf-accepted .ensures A (k .of) (k .tabled))) (test .if1 .left)
-          (made .ensures .1 A kept (leafCandidate (algebraOf A) _) (h .stored) (leaf-row-is A _) (leaf-class-is A _ (c .before .before .before .leaf-class .ensures A (k .tabled .proper) l))),
+    let test = c .before .before .before in (
+      c .keep .ensures .0,
+      λ A k base kept h.
+          one-kept A (leafCandidate (algebraOf A) _) h _ _ (leaf-accepted-is A _ (test .before .leaf-accepted .ensures A (k .headed))) (test .if1 .left)
+          (c .keep .ensures .1 A kept (leafCandidate (algebraOf A) _) (h .stored) (leaf-row-is A _)
+          (leaf-class-is A _ (c .before .leaf-class .ensures A (k .headed .tabled .proper) (k .leaves-are)))),
     )))

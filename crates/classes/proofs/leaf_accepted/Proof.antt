@@ -12,4 +12,4 @@ leaf-accepted-spec =
     (λ c. search needs)
     (λ c κs. search needs)
     (λ c κs. search needs)
-    (λ c. λ A o k. accepted-by A _ _ _ _ _ (o .initial) (o .accepting) (c .before .leaf-loops .ensures A k) (c .meets .ensures)))
+    (λ c. λ A k. accepted-by A _ _ _ _ _ (k .initial) (k .accepting) (c .before .leaf-loops .ensures A (k .tabled)) (c .meets .ensures)))

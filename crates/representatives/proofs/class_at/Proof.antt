@@ -16,4 +16,4 @@ class-at-spec =
     (λ c κs. search needs)
     (λ c. search needs)
     (λ c κs. search needs)
-    (λ c. ap₂ parts (c .before .rows-at .ensures) (c .rows-at2 .ensures)))
+    (λ c. ap₂ parts (c .before .before .rows-at .ensures) (c .rows-at2 .ensures)))

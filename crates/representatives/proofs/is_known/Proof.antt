@@ -25,12 +25,12 @@ is-known-spec =
     (λ c. (search needs, λ i l. absurd (search needs)))
     (λ c. search needs)
     (λ c κs. search needs)
-    (λ c. (c .before .before .before .loop .i, search needs, sym (c .before .same-at .ensures) ∙ c .if1 .taken))
+    (λ c. (c .before .before .before .before .loop .i, search needs, sym (c .before .same-at .ensures) ∙ c .if1 .taken))
     (λ c. search needs)
     (λ c. search needs)
     (λ c.
     let a = c .before .before .before .before .before .before .before .args in
-    (search needs, known-more (a .rows .now) _ (parts (a .left .now) (a .right .now)) (c .before .before .before .loop .inv .1) (c .before .same-at .ensures) (c .if1 .left)))
+    (search needs, known-more (a .rows .now) _ (parts (a .left .now) (a .right .now)) (c .before .before .before .before .loop .inv .1) (c .before .same-at .ensures) (c .if1 .left)))
     (λ c.
-    let end : c .before .loop .i ≡ c .before .before .before .before .before .args .n = search needs in
+    let end : c .before .loop .i ≡ c .before .before .before .before .args .n = search needs in
     rw end at (c .before .loop .inv .1)))

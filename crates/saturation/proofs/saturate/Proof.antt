@@ -9,24 +9,24 @@ use Rattle.model.specs.Saturation.{Candidate}
 use Rattle.model.specs.Fresh.{freshCandidates}
 use Rattle.algorithms.specs.Automaton.{Automaton, alphabetOf}
 use Rattle.algorithms.specs.Saturate.{algebraOf}
-use Rattle.overloops.specs.Tables.{Leaves}
-use Rattle.candidates.specs.Tries.{Read, Keeps, Tries}
+use Rattle.overloops.specs.Ready.{Ready}
+use Rattle.candidates.specs.Tries.{Keeps, Tries}
 use Rattle.saturation.proofs.Ending.{Begins, begins, ends-found, ends-open, ends-empty, goes-on}
 use Rattle.saturation.proofs.saturate.Statement.{statement}
 use Rattle.saturation.proofs.saturate.Tie as tie
 
 abbrev Inv-loop : tie.InvT-loop
 Inv-loop table leaves header rows₀ old₀ n₀ height₀ rows old n height =
-    (length rows ≡ 3264) × (old ≤ n) × (n ≤ 64) × (height ≤ n) × ((A : Automaton) → Read A header table → Leaves A leaves → Begins A rows old n height)
+    (old ≤ n) × (n ≤ 64) × (height ≤ n) × ((A : Automaton) → Ready A header table leaves → Begins A rows old n height)
 
 abbrev μ-loop : tie.MeasureT-loop
 μ-loop table leaves header rows₀ old₀ n₀ height₀ rows old n height = 65 - n
 
 -- what the round tried, whatever the rows are
-tried : (c : tie.After-round Inv-loop μ-loop) (A : Automaton) → Read A (c .before .before .before .before .before .before .args .header) (c .before .before .before .before .before .before .args .table .now) → Leaves A (c .before .before .before .before .before .before .args .leaves .now)
+tried : (c : tie.After-round Inv-loop μ-loop) (A : Automaton) → Ready A (c .before .before .before .args .header) (c .before .before .before .args .table .now) (c .before .before .before .args .leaves .now)
     → (base : List (Candidate (algebraOf A))) → Keeps A base base (c .before .before .loop .n) (c .before .before .loop .rows) → length base ≡ c .before .before .loop .n → (c .before .before .loop .height ≡ 0 → base ≡ [])
     → Tries A base base (freshCandidates (algebraOf A) (alphabetOf A) (c .before .before .loop .height) (c .before .before .loop .old) base) (c .round .last .1 .1 .1 .1 .1 .1 .0) (c .round .result)
-tried c A k t base h e f = c .round .ensures .1 A k t base h e f
+tried c A k base h e f = c .round .ensures .1 A k base h e f
 
 pub saturate-spec : {M : Type 1} → statement M
 saturate-spec =
@@ -34,24 +34,21 @@ saturate-spec =
     (tie.spec
     Inv-loop
     μ-loop
-    (λ c. (search needs, search needs, search needs, search needs, λ A k t. begins A _))
+    (λ c. (search needs, search needs, search needs, λ A k. begins A _))
     (λ c κs. search needs)
+    (λ c. search needs)
+    (λ c.
+    let l = c .before .before .before .before .before .loop in
+    (l .inv .1, λ A k. ends-found A (l .rows) (l .old) (l .n) (l .height) (l .inv .3 A k) (search needs) (l .inv .1) _ _ (tried (c .before .before .before) A k) (c .before .origin .given .1)))
+    (λ c. search needs)
+    (λ c.
+    let l = c .before .before .before .before .before .before .loop in
+    (tt, λ A k. ends-open A (l .rows) (l .old) (l .n) (l .height) (l .inv .3 A k) (search needs) (l .inv .1) _ _ (tried (c .before .before .before .before) A k) (c .before .before .m .given .1) (search needs)))
+    (λ c.
+    let l = c .before .before .before .before .before .before .before .loop in
+    (tt, λ A k. ends-empty A (l .rows) (l .old) (l .n) (l .height) (l .inv .3 A k) (search needs) (l .inv .1) _ _ (tried (c .before .before .before .before .before) A k) (c .before .before .before .m .given .1) (search needs) (search needs)))
     (λ c. search needs)
     (λ c. search needs)
     (λ c.
     let l = c .before .before .before .before .before .before .before .loop in
-    (l .inv .2, λ A k t. ends-found A (l .rows) (l .old) (l .n) (l .height) (l .inv .4 A k t) (search needs) (l .inv .2) _ _ (tried (c .before .before .before .before .before) A k t) (c .before .origin .given .1)))
-    (λ c. search needs)
-    (λ c. search needs)
-    (λ c.
-    let l = c .before .before .before .before .before .before .before .before .loop in
-    (tt, λ A k t. ends-open A (l .rows) (l .old) (l .n) (l .height) (l .inv .4 A k t) (search needs) (l .inv .2) _ _ (tried (c .before .before .before .before .before .before) A k t) (c .before .before .m .given .1) (search needs)))
-    (λ c. search needs)
-    (λ c.
-    let l = c .before .before .before .before .before .before .before .before .before .loop in
-    (tt, λ A k t. ends-empty A (l .rows) (l .old) (l .n) (l .height) (l .inv .4 A k t) (search needs) (l .inv .2) _ _ (tried (c .before .before .before .before .before .before .before) A k t) (c .before .before .before .m .given .1) (search needs) (search needs)))
-    (λ c. search needs)
-    (λ c. search needs)
-    (λ c.
-    let l = c .before .before .before .before .before .before .before .before .before .loop in
-    (search needs, search needs, search needs, search needs, λ A k t. goes-on A (l .rows) (l .old) (l .n) (l .height) (l .inv .4 A k t) (search needs) (l .inv .2) _ _ (tried (c .before .before .before .before .before .before .before) A k t) (c .before .before .before .m .given .1) (search needs) (search needs))))
+    (search needs, search needs, search needs, λ A k. goes-on A (l .rows) (l .old) (l .n) (l .height) (l .inv .3 A k) (search needs) (l .inv .1) _ _ (tried (c .before .before .before .before .before) A k) (c .before .before .before .m .given .1) (search needs) (search needs))))

@@ -5,8 +5,7 @@ use borrow.Author.Needs.{needs}
 use Prim.Native.Nat.{ℕ}
 use mathlib.Core.Path.{_≡_, sym, _∙_}
 use mathlib.Core.List.{List}
-use Rattle.overloops.specs.Prepared.{Prepared}
-use Rattle.overloops.proofs.Laws.{prepared-read}
+use Rattle.overloops.proofs.Laws.{prepared-ready}
 use Rattle.emptiness.specs.Checked.{checked}
 use Rattle.emptiness.specs.Demand3.{Demand3Quick}
 use Rattle.emptiness.proofs.Proved.{checked-right}
@@ -18,11 +17,6 @@ use Rattle.emptiness.proofs.file.quick.Tie as tie
 both : (w : List ℕ) (r : Quick) → r ≡ checked w → (r ≡ checked w) × Demand3Quick w r
 both w r e = (e, rw e (checked-right w))
 
--- the tables are prepared
-abbrev prepared : (c : tie.After-known-told2) → Prepared (c .before .header .given .0 .0) (c .before .before .before .prepare .last .1 .0)
-    (c .before .before .before .prepare .last .1 .1 .0)
-prepared c = prepared-read _ _ _ _ _ _ _ (c .before .header .given .1) (c .before .before .before .prepare .ensures .0) (c .before .before .before .prepare .ensures .1)
-
 prepare-requires : tie.Need-prepare-requires
 prepare-requires c κs = search needs
 
@@ -32,14 +26,10 @@ enum-known-refusal c = search needs
 enum-known-header : tie.Need-enum-known-header
 enum-known-header c = search needs
 
-slice-aggregate-quick-prepared : tie.Need-slice-aggregate-quick-prepared
-slice-aggregate-quick-prepared c = sym (prepared (c .before) .compiled .size)
-
-slice-aggregate-quick-prepared-2 : tie.Need-slice-aggregate-quick-prepared-2
-slice-aggregate-quick-prepared-2 c = sym (prepared (c .before .before) .leaves-are .size)
-
 quick-prepared-requires : tie.Need-quick-prepared-requires
-quick-prepared-requires c κs = prepared (c .before .before)
+quick-prepared-requires c κs =
+    let told = c .before .before in
+    prepared-ready _ _ _ _ _ _ _ (told .before .header .given .1) (told .before .before .before .prepare .ensures .2) .0
 
 returns : tie.Need-returns
 unfolding checked
@@ -49,7 +39,8 @@ returns-2 : tie.Need-returns-2
 unfolding checked
 returns-2 c =
     let told = c .before .before .before in
-    both _ _ (rw (sym (told .before .before .before .prepare .ensures .0) ∙ told .before .header .given .1) (c .quick-prepared .ensures (prepared told)))
+    let ready = prepared-ready _ _ _ _ _ _ _ (told .before .header .given .1) (told .before .before .before .prepare .ensures .2) in
+    both _ _ (rw (sym (told .before .before .before .prepare .ensures .0) ∙ told .before .header .given .1) (c .quick-prepared .ensures _ (ready .1)))
 
 pub quick-spec : {M : Type 1} → statement M
 quick-spec =
@@ -58,8 +49,6 @@ quick-spec =
     prepare-requires
     enum-known-refusal
     enum-known-header
-    slice-aggregate-quick-prepared
-    slice-aggregate-quick-prepared-2
     quick-prepared-requires
     returns
     returns-2)

@@ -5,8 +5,7 @@ use borrow.Author.Needs.{needs}
 use Prim.Native.Nat.{ℕ}
 use mathlib.Core.Path.{_≡_, sym, _∙_}
 use mathlib.Core.List.{List}
-use Rattle.overloops.specs.Prepared.{Prepared}
-use Rattle.overloops.proofs.Laws.{prepared-read}
+use Rattle.overloops.proofs.Laws.{prepared-ready}
 use Rattle.emptiness.specs.Surveyed.{Answered, surveyed}
 use Rattle.emptiness.specs.Demand3.{Demand3}
 use Rattle.emptiness.proofs.Proved.{surveyed-right}
@@ -17,11 +16,6 @@ use Rattle.emptiness.proofs.file.survey.Tie as tie
 both : (w before : List ℕ) (o : Answered) → o ≡ surveyed w before → (o ≡ surveyed w before) × Demand3 w before o
 both w before o e = (e, rw e (surveyed-right w before))
 
--- the tables are prepared
-abbrev prepared : (c : tie.After-known-told2) → Prepared (c .before .header .given .0 .0) (c .before .before .before .prepare .last .1 .0)
-    (c .before .before .before .prepare .last .1 .1 .0)
-prepared c = prepared-read _ _ _ _ _ _ _ (c .before .header .given .1) (c .before .before .before .prepare .ensures .0) (c .before .before .before .prepare .ensures .1)
-
 prepare-requires : tie.Need-prepare-requires
 prepare-requires c κs = search needs
 
@@ -31,14 +25,10 @@ enum-known-refusal c = search needs
 enum-known-header : tie.Need-enum-known-header
 enum-known-header c = search needs
 
-slice-aggregate-survey-prepared : tie.Need-slice-aggregate-survey-prepared
-slice-aggregate-survey-prepared c = sym (prepared (c .before) .compiled .size)
-
-slice-aggregate-survey-prepared-2 : tie.Need-slice-aggregate-survey-prepared-2
-slice-aggregate-survey-prepared-2 c = sym (prepared (c .before .before) .leaves-are .size)
-
 survey-prepared-requires : tie.Need-survey-prepared-requires
-survey-prepared-requires c κs = prepared (c .before .before .before)
+survey-prepared-requires c κs =
+    let told = c .before .before .before in
+    prepared-ready _ _ _ _ _ _ _ (told .before .header .given .1) (told .before .before .before .prepare .ensures .2) .0
 
 returns : tie.Need-returns
 unfolding surveyed
@@ -51,7 +41,8 @@ returns-2 : tie.Need-returns-2
 unfolding surveyed
 returns-2 c =
     let told = c .before .before .before .before .before .before in
-    both _ _ _ (rw (sym (told .before .before .before .prepare .ensures .0) ∙ told .before .header .given .1) (c .before .before .survey-prepared .ensures (prepared told)))
+    let ready = prepared-ready _ _ _ _ _ _ _ (told .before .header .given .1) (told .before .before .before .prepare .ensures .2) in
+    both _ _ _ (rw (sym (told .before .before .before .prepare .ensures .0) ∙ told .before .header .given .1) (c .before .before .survey-prepared .ensures _ (ready .1)))
 
 pub survey-spec : {M : Type 1} → statement M
 survey-spec =
@@ -60,8 +51,6 @@ survey-spec =
     prepare-requires
     enum-known-refusal
     enum-known-header
-    slice-aggregate-survey-prepared
-    slice-aggregate-survey-prepared-2
     survey-prepared-requires
     returns
     same-length

@@ -2,9 +2,7 @@
 -- Assumes nothing.
 use borrow.Author.Needs.{needs}
 use mathlib.Core.Path.{sym, _∙_}
-use Rattle.automaton.proofs.Passed.{file-read}
-use Rattle.emptiness.proofs.Planning.{long-enough}
-use Rattle.emptiness.proofs.Prepared.{prepared-are, survey-short, survey-long}
+use Rattle.emptiness.proofs.Planning.{long-enough, survey-short, survey-long}
 use Rattle.emptiness.proofs.file.survey_prepared.Statement.{statement}
 use Rattle.emptiness.proofs.file.survey_prepared.Tie as tie
 
@@ -18,24 +16,21 @@ same-length : tie.Need-same-length
 same-length c = search needs
 
 returns : tie.Need-returns
-returns c p = survey-short _ _ _ _ (sym (c .before .before .before .buffer-check .ensures) ∙ c .before .refusal .given .1)
+returns c A k = survey-short A _ _ (sym (c .before .before .before .buffer-check .ensures) ∙ c .before .refusal .given .1)
 
 enum-told : tie.Need-enum-told
 enum-told c = search needs
 
 survey-read-requires : tie.Need-survey-read-requires
-survey-read-requires c κs =
-    let p = c .before .before .before .before .before .before .before .before .pre in
-    let f = file-read _ _ (p .read) in
-    (p .compiled .size, p .leaves-are .size, f .laid-out .states, f .laid-out .symbols, long-enough _ (sym (c .before .before .before .buffer-check .ensures) ∙ c .before .enum-told .given .1))
+survey-read-requires c κs = (c .before .before .before .before .before .before .pre, long-enough _ (sym (c .before .before .before .buffer-check .ensures) ∙ c .before .enum-told .given .1))
 
 same-length-2 : tie.Need-same-length-2
 same-length-2 c = search needs
 
 returns-2 : tie.Need-returns-2
-returns-2 c p =
-    let r = c .before .before .survey-read .ensures _ (prepared-are _ _ _ p) (p .leaves-are) in
-    survey-long _ _ _ _ _ (sym (c .before .before .before .before .before .before .buffer-check .ensures) ∙ c .before .before .before .before .enum-told .given .1) (r .0) (r .1)
+returns-2 c A k =
+    let r = c .before .before .survey-read .ensures A k in
+    survey-long A _ _ _ (sym (c .before .before .before .before .before .before .buffer-check .ensures) ∙ c .before .before .before .before .enum-told .given .1) (r .0) (r .1)
 
 pub survey-prepared-spec : {M : Type 1} → statement M
 survey-prepared-spec =

@@ -13,15 +13,13 @@ pub survey-read-spec : {M : Type 1} → statement M
 survey-read-spec =
     tie.close
     (tie.spec
-    (λ c. search needs)
     (λ c κs. search needs)
     (λ c. search needs)
     (λ c. search needs)
     (λ c. search needs)
+    (λ c κs. (found-few (c .before .before .before .height3 .given .1) (c .before .before .before .before .before .saturate .ensures .0), search needs))
+    (λ c. let few = found-few (c .before .before .before .before .before .before .height3 .given .1) (c .before .before .before .before .before .before .before .before .saturate .ensures .0) in omega arith)
+    (λ c. λ A k. verdict-told (saturationOf A) _ (Saturated.Open _) _ _ _ (c .before .before .before .saturate .ensures .1 A k) (c .before .height .given .1) refl)
+    (λ c. λ A k. verdict-told (saturationOf A) _ (Saturated.Empty _) _ _ _ (c .before .before .before .saturate .ensures .1 A k) (c .before .height2 .given .1) refl)
     (λ c. search needs)
-    (λ c κs. (search needs, found-few (c .before .before .before .height3 .given .1) (c .before .before .before .before .before .before .saturate .ensures .0), search needs))
-    (λ c. let few = found-few (c .before .before .before .before .before .before .height3 .given .1) (c .before .before .before .before .before .before .before .before .before .saturate .ensures .0) in omega arith)
-    (λ c. λ A k t. verdict-told (saturationOf A) _ (Saturated.Open _) _ _ _ (c .before .before .before .before .saturate .ensures .1 A k t) (c .before .height .given .1) refl)
-    (λ c. λ A k t. verdict-told (saturationOf A) _ (Saturated.Empty _) _ _ _ (c .before .before .before .before .saturate .ensures .1 A k t) (c .before .height2 .given .1) refl)
-    (λ c. search needs)
-    (λ c. λ A k t. verdict-told (saturationOf A) _ (Saturated.Found _ _ _) _ _ _ (c .before .before .before .before .before .before .before .before .before .saturate .ensures .1 A k t) (c .before .before .before .before .before .before .height3 .given .1) (c .before .before .write-plan .ensures)))
+    (λ c. λ A k. verdict-told (saturationOf A) _ (Saturated.Found _ _ _) _ _ _ (c .before .before .before .before .before .before .before .before .saturate .ensures .1 A k) (c .before .before .before .before .before .before .height3 .given .1) (c .before .before .write-plan .ensures)))

@@ -33,12 +33,12 @@ write-plan-spec =
     (λ c. search needs)
     (λ c. search needs)
     (λ c.
-    let a = c .before .before .before .before .before .before .before .before .before .args in
+    let a = c .before .before .before .before .before .before .before .before .args in
     (search needs, search needs, plan-step (a .rows .now) (a .plan .now) _ _ (c .before .before .before .before .before .before .loop .i) (c .before .before .before .origin-at .result) (c .before .before .before .origin-at .ensures) (c .before .before .before .before .before .before .loop .inv .2) (c .before .before .put-row .ensures)))
     (λ c. search needs)
     (λ c κs. search needs)
     (λ c. search needs)
     (λ c.
-    let end : c .before .before .before .before .before .loop .i ≡ c .before .before .before .before .before .before .before .before .args .n = search needs in
-    let a = c .before .before .before .before .before .before .before .before .args in
+    let end : c .before .before .before .before .before .loop .i ≡ c .before .before .before .before .before .before .before .args .n = search needs in
+    let a = c .before .before .before .before .before .before .before .args in
     plan-more (originsIn (a .rows .now) (a .n)) (originOf (a .last)) (a .n) (a .plan .now) _ (origins-length (a .rows .now) _) (rw end at (c .before .before .before .before .before .loop .inv .2)) _ (c .before .before .put-row2 .ensures)))
