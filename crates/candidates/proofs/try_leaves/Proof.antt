@@ -4,7 +4,6 @@ use borrow.Author.Needs.{needs}
 use Prim.Native.Nat.{_+_, _-_, _≤_}
 use mathlib.Core.Path.{_≡_, refl}
 use mathlib.Core.List.{[], _∷_, flatMap}
-use lib.ListN.{length}
 use Rattle.model.specs.Saturation.{leafCandidate}
 use Rattle.algorithms.specs.Automaton.{Automaton, numbered}
 use Rattle.algorithms.specs.Saturate.{algebraOf}
