@@ -13,21 +13,24 @@ use Rattle.refusal.specs.Checks.{refused}
 use Rattle.refusal.specs.declared.Fault.{Fault}
 use Rattle.refusal.specs.declared.Refusal.{Refusal}
 use Rattle.refusal.proofs.Passed.{clash}
+use Rattle.algorithms.specs.Automaton.{Automaton}
 use Rattle.automaton.specs.File.{parsed}
 use Rattle.automaton.specs.declared.Header.{Header}
 use Rattle.automaton.specs.declared.file.Parsed.{Parsed}
+use Rattle.transitions.specs.Transitions.{automatonOf}
 use Rattle.tally.specs.Tally.{total, countedUp}
 use Rattle.tally.proofs.Counting.{counted-full, counted-one, one-more}
 use Rattle.tally.specs.declared.Outcome.{Outcome}
 use Rattle.tally.specs.declared.Tally.{Tally}
 use Rattle.tally.specs.declared.Tallied.{Tallied}
-use Rattle.batch.specs.Batch.{fileBlocks, firstLength, turnOf, passes, taken, nextIn, nothingCounted}
+use Rattle.batch.specs.Batch.{fileBlocks, firstLength, turnOf, IsFile, passes, taken, nextIn, nothingCounted}
 use Rattle.batch.specs.Turns.{Went, begun, turn}
 use Rattle.batch.specs.declared.Turn.{Turn}
 use Rattle.batch.proofs.Laws.{some-block, more-whole}
 use Rattle.text.specs.Appended.{Appended}
 use Rattle.text.proofs.Laws.{front-is}
-use Rattle.wording.specs.Report.{refusedLine, headOf, tallyLine}
+use Rattle.wording.specs.ReportLines.{refusedLine, tallyLine}
+use Rattle.report_text.specs.Report.{headOf}
 use Rattle.reporting.specs.declared.Descriptor.{Descriptor}
 use Rattle.reporting.specs.Trace.{Asked, asked-few, Handed, TurnRead, short, block, TurnsRead, none, one}
 use Rattle.reporting.specs.Reported as reported
@@ -61,46 +64,46 @@ not-over d s (block l q r) = omega (arith, asked-few d (firstLength s - 512) (le
 -- ---- the loop
 
 -- how far the batch is: a turn was read and is to be counted; or the batch has ended
-pub data Progress (d : Descriptor) (h : Header) (p : List ℕ) (t : Tally) (now : Turn) : Type 0 where
-  reading : (s : List ℕ) (ss : List (List ℕ)) → Went h p nothingCounted ss t → TurnRead d s → TurnsRead d ss → now ≡ turnOf h p s → Progress d h p t now
-  ended : reported.Tallied d h p t → now ≡ Turn.End → Progress d h p t now
+pub data Progress (d : Descriptor) (A : Automaton) (t : Tally) (now : Turn) : Type 0 where
+  reading : (s : List ℕ) (ss : List (List ℕ)) → Went A nothingCounted ss t → TurnRead d s → TurnsRead d ss → now ≡ turnOf A s → Progress d A t now
+  ended : reported.Tallied d A t → now ≡ Turn.End → Progress d A t now
 
-module _ (d : Descriptor) (h : Header) (p : List ℕ) where
-  pub begins : (now : Turn) → (s : List ℕ) × (now ≡ turnOf h p s) × TurnRead d s → Progress d h p nothingCounted now
+module _ (d : Descriptor) (A : Automaton) where
+  pub begins : (now : Turn) → (s : List ℕ) × (now ≡ turnOf A s) × TurnRead d s → Progress d A nothingCounted now
   begins now x = reading (x .0) [] begun (x .2) none (x .1)
 
   -- the last turn: it does not go on
-  last-turn : (t : Tally) (s : List ℕ) (ss : List (List ℕ)) → Went h p nothingCounted ss t → TurnRead d s → TurnsRead d ss → nextIn h p t s .more ≡ false
-      → reported.Tallied d h p (nextIn h p t s .tally)
+  last-turn : (t : Tally) (s : List ℕ) (ss : List (List ℕ)) → Went A nothingCounted ss t → TurnRead d s → TurnsRead d ss → nextIn A t s .more ≡ false
+      → reported.Tallied d A (nextIn A t s .tally)
   last-turn t s ss w r rs e = (s, ss, record { before = t; went = w; stops = e; tally = refl }, one r rs)
 
-  pub finished : (t : Tally) (now : Turn) → Progress d h p t now → now ≡ Turn.End → reported.Tallied d h p t
+  pub finished : (t : Tally) (now : Turn) → Progress d A t now → now ≡ Turn.End → reported.Tallied d A t
   unfolding nextIn
   finished t now (reading s ss w r rs e) f =
-      let g : turnOf h p s ≡ Turn.End = sym e ∙ f in
-      let stops : taken t (turnOf h p s) .more ≡ false = ap (λ (x : Turn). taken t x .more) g in
-      subst (λ (u : Tally). reported.Tallied d h p u) (ap (λ (x : Turn). taken t x .tally) g) (last-turn t s ss w r rs stops)
+      let g : turnOf A s ≡ Turn.End = sym e ∙ f in
+      let stops : taken t (turnOf A s) .more ≡ false = ap (λ (x : Turn). taken t x .more) g in
+      subst (λ (u : Tally). reported.Tallied d A u) (ap (λ (x : Turn). taken t x .tally) g) (last-turn t s ss w r rs stops)
   finished t now (ended x e) f = x
 
   -- a turn that was read is counted; the batch goes on or not
-  counted-by : (t : Tally) (o : Outcome) (more : Bool) (s : List ℕ) (ss : List (List ℕ)) → Went h p nothingCounted ss t → TurnRead d s → TurnsRead d ss
-      → Turn.File o more ≡ turnOf h p s → (on : Bool) → (passes (countedUp t o .check) && more) ≡ on → (now : Turn) → Following on d h p now
-      → Progress d h p (countedUp t o .tally) now
+  counted-by : (t : Tally) (o : Outcome) (more : Bool) (s : List ℕ) (ss : List (List ℕ)) → Went A nothingCounted ss t → TurnRead d s → TurnsRead d ss
+      → Turn.File o more ≡ turnOf A s → (on : Bool) → (passes (countedUp t o .check) && more) ≡ on → (now : Turn) → Following on d A now
+      → Progress d A (countedUp t o .tally) now
   unfolding nextIn
   counted-by t o more s ss w r rs e true f now x =
-      let goes : taken t (turnOf h p s) .more ≡ true = ap (λ (y : Turn). taken t y .more) (sym e) ∙ f in
-      let all : length s ≡ firstLength s = omega (arith, more-whole h p t s goes, not-over d s r) in
-      let went : Went h p nothingCounted (s ∷ ss) (countedUp t o .tally) =
-      subst (λ (u : Tally). Went h p nothingCounted (s ∷ ss) u) (ap (λ (y : Turn). taken t y .tally) (sym e)) (turn w s all goes) in
+      let goes : taken t (turnOf A s) .more ≡ true = ap (λ (y : Turn). taken t y .more) (sym e) ∙ f in
+      let all : length s ≡ firstLength s = omega (arith, more-whole A t s goes, not-over d s r) in
+      let went : Went A nothingCounted (s ∷ ss) (countedUp t o .tally) =
+      subst (λ (u : Tally). Went A nothingCounted (s ∷ ss) u) (ap (λ (y : Turn). taken t y .tally) (sym e)) (turn w s all goes) in
       reading (x .0) (s ∷ ss) went (x .2) (one r rs) (x .1)
   counted-by t o more s ss w r rs e false f now x =
-      let stops : taken t (turnOf h p s) .more ≡ false = ap (λ (y : Turn). taken t y .more) (sym e) ∙ f in
-      ended (subst (λ (u : Tally). reported.Tallied d h p u) (ap (λ (y : Turn). taken t y .tally) (sym e)) (last-turn t s ss w r rs stops)) x
+      let stops : taken t (turnOf A s) .more ≡ false = ap (λ (y : Turn). taken t y .more) (sym e) ∙ f in
+      ended (subst (λ (u : Tally). reported.Tallied d A u) (ap (λ (y : Turn). taken t y .tally) (sym e)) (last-turn t s ss w r rs stops)) x
 
-  pub counted-turn : (t : Tally) (o : Outcome) (more : Bool) (before now : Turn) (c : Tallied) → Progress d h p t before → before ≡ Turn.File o more → c ≡ countedUp t o
-      → Following (passes (c .check) && more) d h p now → Progress d h p (c .tally) now
+  pub counted-turn : (t : Tally) (o : Outcome) (more : Bool) (before now : Turn) (c : Tallied) → Progress d A t before → before ≡ Turn.File o more → c ≡ countedUp t o
+      → Following (passes (c .check) && more) d A now → Progress d A (c .tally) now
   counted-turn t o more before now c (reading s ss w r rs e) f g x =
-      subst (λ (y : Tallied). Following (passes (y .check) && more) d h p now → Progress d h p (y .tally) now) (sym g)
+      subst (λ (y : Tallied). Following (passes (y .check) && more) d A now → Progress d A (y .tally) now) (sym g)
       (λ z. counted-by t o more s ss w r rs (sym f ∙ e) (passes (countedUp t o .check) && more) refl now z) x
   counted-turn t o more before now c (ended x e) f g y = clash (cc)
 
@@ -117,32 +120,38 @@ few : (now : Turn) → waiting now ≤ 1
 few Turn.End = omega arith
 few (Turn.File o more) = omega arith
 
-module _ (d : Descriptor) (h : Header) (p : List ℕ) (t : Tally) (o : Outcome) (more : Bool) (now : Turn) where
-  full-nearer : countedUp t o ≡ record { tally = t; check = refused Fault.Tally 2 0 } → Following (passes (countedUp t o .check) && more) d h p now
+-- where there is no file, none waits
+none-waits : (now : Turn) → ¬ IsFile now → waiting now ≡ 0
+none-waits Turn.End n = refl
+none-waits (Turn.File o more) n = absurd (n tt)
+
+module _ (t : Tally) (o : Outcome) (more : Bool) (now : Turn) where
+  full-nearer : countedUp t o ≡ record { tally = t; check = refused Fault.Tally 2 0 } → (IsFile now → (passes (countedUp t o .check) && more) ≡ true)
       → left (countedUp t o .tally) now < 2 * (1000000 - total t) + 1
   full-nearer e x =
-      let n : now ≡ Turn.End = subst (λ (c : Tallied). Following (passes (c .check) && more) d h p now) e x in
+      let shut : (passes (countedUp t o .check) && more) ≡ false = ap (λ (c : Tallied). passes (c .check) && more) e in
+      let n : waiting now ≡ 0 = none-waits now (λ f. clash (cc (x f, shut))) in
       rw (e, n) (omega arith)
 
   one-nearer : total t < 1000000 → left (countedUp t o .tally) now < 2 * (1000000 - total t) + 1
   one-nearer l = rw (counted-one t o l) (omega (arith, one-more t o, few now))
 
-  nearer-by : (full : Bool) → leb 1000000 (total t) ≡ full → Following (passes (countedUp t o .check) && more) d h p now
+  nearer-by : (full : Bool) → leb 1000000 (total t) ≡ full → (IsFile now → (passes (countedUp t o .check) && more) ≡ true)
       → left (countedUp t o .tally) now < 2 * (1000000 - total t) + 1
   nearer-by true e x = full-nearer (counted-full t o (leb-true 1000000 (total t) e)) x
   nearer-by false e x = one-nearer (leb-false 1000000 (total t) e)
 
-  pub nearer : (before : Turn) (c : Tallied) → before ≡ Turn.File o more → c ≡ countedUp t o → Following (passes (c .check) && more) d h p now
+  pub nearer : (before : Turn) (c : Tallied) → before ≡ Turn.File o more → c ≡ countedUp t o → (IsFile now → (passes (c .check) && more) ≡ true)
       → left (c .tally) now < left t before
   nearer before c f g x =
-      rw (g, f) (nearer-by (leb 1000000 (total t)) refl (subst (λ (y : Tallied). Following (passes (y .check) && more) d h p now) g x))
+      rw (g, f) (nearer-by (leb 1000000 (total t)) refl (subst (λ (y : Tallied). IsFile now → (passes (y .check) && more) ≡ true) g x))
 
 -- ---- what is reported
 
 pub reported-refused : (w : List ℕ) (d : Descriptor) (r : Refusal) (took : Bool) → parsed w ≡ Parsed.Refused r → Handed (refusedLine r) took → Reported w d took
 reported-refused w d r took e f = rw e f
 
-pub reported-read : (w : List ℕ) (d : Descriptor) (h : Header) (t : Tally) (first last took : Bool) → parsed w ≡ Parsed.Read h → reported.Tallied d h (content w) t
+pub reported-read : (w : List ℕ) (d : Descriptor) (h : Header) (t : Tally) (first last took : Bool) → parsed w ≡ Parsed.Read h → reported.Tallied d (automatonOf h (content w)) t
     → Handed (headOf h (content w)) first → Handed (tallyLine t) last → took ≡ (first && last) → Reported w d took
 reported-read w d h t first last took e x y z b = rw e (t, x, first, last, y, z, b)
 

@@ -3,18 +3,18 @@
 -- Assumes nothing.
 use Prim.Native.Nat.{ℕ, _<_}
 use mathlib.Core.Path.{_≡_, sym}
-use mathlib.Core.Bool.{Bool, _&&_}
+use mathlib.Core.Bool.{Bool, true, _&&_}
 use mathlib.Core.List.{List}
-use Rattle.blocks.specs.Blocks.{content}
 use Rattle.refusal.specs.declared.Check.{Check}
+use Rattle.algorithms.specs.Automaton.{Automaton}
 use Rattle.automaton.specs.declared.Header.{Header}
-use Rattle.overloops.specs.Prepared.{Prepared}
+use Rattle.overloops.specs.Ready.{Ready}
 use Rattle.tally.specs.Tally.{countedUp}
 use Rattle.tally.specs.declared.Outcome.{Outcome}
 use Rattle.tally.specs.declared.Tally.{Tally}
 use Rattle.tally.specs.declared.Tallied.{Tallied}
 use Rattle.tally.proofs.Lent.{Told}
-use Rattle.batch.specs.Batch.{passes, turnOf, nothingCounted}
+use Rattle.batch.specs.Batch.{passes, turnOf, IsFile, nothingCounted}
 use Rattle.batch.specs.declared.Turn.{Turn}
 use Rattle.reporting.specs.declared.Descriptor.{Descriptor}
 use Rattle.reporting.specs.Trace.{TurnRead}
@@ -28,25 +28,25 @@ module _ (h : Header) (table leaves : List ℕ) (d : Descriptor) where
   pub record Reached : Type 0 where
     pub tally : Tally
     pub turn : Turn
-    pub progress : (p : Prepared h table leaves) → Progress d h (content (p .file)) tally turn
+    pub progress : (A : Automaton) → Ready A h table leaves → Progress d A tally turn
 
   -- what `read_turn` and `turn_after` tell of their results
   abbrev pub First : Turn → Type 0
-  First r = (p : Prepared h table leaves) → (s : List ℕ) × (r ≡ turnOf h (content (p .file)) s) × TurnRead d s
+  First r = (A : Automaton) → Ready A h table leaves → (s : List ℕ) × (r ≡ turnOf A s) × TurnRead d s
 
   abbrev pub After : Check → (more : Bool) → Turn → Type 0
-  After k more r = (p : Prepared h table leaves) → Following (passes k && more) d h (content (p .file)) r
+  After c more r = (IsFile r → (passes c && more) ≡ true) × ((A : Automaton) → Ready A h table leaves → Following (passes c && more) d A r)
 
   abbrev pub begun : (r : Turn) → First r → Reached
-  begun r e = record { tally = nothingCounted; turn = r; progress = λ p. begins d h (content (p .file)) r (e p) }
+  begun r e = record { tally = nothingCounted; turn = r; progress = λ A k. begins d A r (e A k) }
 
   module _ (x : Reached) where
-    pub ended : Turn.End ≡ x .turn → (p : Prepared h table leaves) → reported.Tallied d h (content (p .file)) (x .tally)
-    ended e p = finished d h (content (p .file)) (x .tally) (x .turn) (x .progress p) (sym e)
+    pub ended : Turn.End ≡ x .turn → (A : Automaton) → Ready A h table leaves → reported.Tallied d A (x .tally)
+    ended e A k = finished d A (x .tally) (x .turn) (x .progress A k) (sym e)
 
-    module _ (o : Outcome) (m : Bool) (e : Turn.File o m ≡ x .turn) (t : Tally) (k : Check) (told : Told (x .tally) o t k) (r : Turn) (after : After k m r) where
+    module _ (o : Outcome) (m : Bool) (e : Turn.File o m ≡ x .turn) (t : Tally) (c : Check) (told : Told (x .tally) o t c) (r : Turn) (after : After c m r) where
       abbrev counted : Tallied
-      counted = record { tally = t; check = k }
+      counted = record { tally = t; check = c }
 
       pub is-counted : counted ≡ countedUp (x .tally) o
       is-counted = λ i. record { tally = told .0 i; check = told .1 i }
@@ -55,8 +55,8 @@ module _ (h : Header) (table leaves : List ℕ) (d : Descriptor) where
       onward = record {
         tally = t;
         turn = r;
-        progress = λ p. counted-turn d h (content (p .file)) (x .tally) o m (x .turn) r counted (x .progress p) (sym e) is-counted (after p);
+        progress = λ A k. counted-turn d A (x .tally) o m (x .turn) r counted (x .progress A k) (sym e) is-counted (after .1 A k);
       }
 
-      pub nearer : Prepared h table leaves → left t r < left (x .tally) (x .turn)
-      nearer q = laws.nearer d h (content (q .file)) (x .tally) o m r (x .turn) counted (sym e) is-counted (after q)
+      pub nearer : left t r < left (x .tally) (x .turn)
+      nearer = laws.nearer (x .tally) o m r (x .turn) counted (sym e) is-counted (after .0)

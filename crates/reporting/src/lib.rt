@@ -2,19 +2,24 @@
 use automaton::Header;
 use automaton::file::Parsed;
 use batch::Turn;
+use overloops::LeafTable;
 use refusal::Check;
 use refusal::Refusal;
 use tally::Tally;
 use tally::count;
+use transitions::TransitionTable;
 ghost use mathlib.Core.Path.{_≡_};
-ghost use mathlib.Core.Bool.{_&&_};
+ghost use mathlib.Core.Bool.{true, _&&_};
 ghost use mathlib.Core.List.{List};
 ghost use Prim.Native.Nat.{ℕ, _+_, _-_, _≤_};
 ghost use lib.ListN.{length, take};
-ghost use Rattle.blocks.specs.Blocks.{content};
-ghost use Rattle.overloops.specs.Prepared.{PreparedOf, Prepared};
-ghost use Rattle.batch.specs.Batch.{passes, turnOf};
-ghost use Rattle.wording.specs.Report.{refusedLine, headOf, tallyLine};
+ghost use Rattle.algorithms.specs.Automaton.{Automaton};
+ghost use Rattle.automaton.specs.File.{LaidOut, WithinLimits};
+ghost use Rattle.transitions.specs.Transitions.{automatonOf};
+ghost use Rattle.overloops.specs.Ready.{Ready};
+ghost use Rattle.batch.specs.Batch.{passes, turnOf, IsFile};
+ghost use Rattle.wording.specs.ReportLines.{refusedLine, tallyLine};
+ghost use Rattle.report_text.specs.Report.{headOf};
 ghost use Rattle.reporting.specs.Trace.{Asked, Handed, TurnRead};
 ghost use Rattle.reporting.specs.Reported.{Following, Tallied, Reported};
 
@@ -33,14 +38,14 @@ fn read_part(input: Descriptor, buffer: &mut [u8], from: usize, to: usize) -> us
 // Reads the next tree's file into a buffer; what was read comes to.
 fn turn_into(
     header: Header,
-    table: &[u32],
-    leaves: &[u32],
+    table: &TransitionTable,
+    leaves: &LeafTable,
     input: Descriptor,
     file: &mut [u8],
 ) -> Turn
-    requires { ⌜ Prepared header (now table) (now leaves) × (length (now file) ≡ 4608) ⌝ }
-    ensures { λ r. ⌜ ((p : Prepared header (now (table .entry)) (now (leaves .entry)))
-        → (n : ℕ) × (r ≡ turnOf header (content (p .file)) (take n (now (file .exit)))) × TurnRead input (take n (now (file .exit)))) ⌝ }
+    requires { ⌜ WithinLimits header × (length (now file) ≡ 4608) ⌝ }
+    ensures { λ r. ⌜ ((A : Automaton) → Ready A header (now (table .entry)) (now (leaves .entry))
+        → (n : ℕ) × (r ≡ turnOf A (take n (now (file .exit)))) × TurnRead input (take n (now (file .exit)))) ⌝ }
 {
     let first = read_part(input, file, 0, 512);
     if first < 512 {
@@ -52,10 +57,10 @@ fn turn_into(
     batch::turn_in(header, table, leaves, &file[..all])
 }
 
-fn read_turn(header: Header, table: &[u32], leaves: &[u32], input: Descriptor) -> Turn
-    requires { ⌜ Prepared header (now table) (now leaves) ⌝ }
-    ensures { λ r. ⌜ ((p : Prepared header (now (table .entry)) (now (leaves .entry)))
-        → (s : List ℕ) × (r ≡ turnOf header (content (p .file)) s) × TurnRead input s) ⌝ }
+fn read_turn(header: Header, table: &TransitionTable, leaves: &LeafTable, input: Descriptor) -> Turn
+    requires { ⌜ WithinLimits header ⌝ }
+    ensures { λ r. ⌜ ((A : Automaton) → Ready A header (now (table .entry)) (now (leaves .entry))
+        → (s : List ℕ) × (r ≡ turnOf A s) × TurnRead input s) ⌝ }
 {
     let mut file = [0u8; 4608];
     turn_into(header, table, leaves, input, &mut file)
@@ -66,13 +71,13 @@ fn turn_after(
     check: Check,
     more: bool,
     header: Header,
-    table: &[u32],
-    leaves: &[u32],
+    table: &TransitionTable,
+    leaves: &LeafTable,
     input: Descriptor,
 ) -> Turn
-    requires { ⌜ Prepared header (now table) (now leaves) ⌝ }
-    ensures { λ r. ⌜ ((p : Prepared header (now (table .entry)) (now (leaves .entry)))
-        → Following (passes check && more) input header (content (p .file)) r) ⌝ }
+    requires { ⌜ WithinLimits header ⌝ }
+    ensures { λ r. ⌜ (IsFile r → (passes check && more) ≡ true)
+        × ((A : Automaton) → Ready A header (now (table .entry)) (now (leaves .entry)) → Following (passes check && more) input A r) ⌝ }
 {
     if batch::goes_on(check, more) {
         read_turn(header, table, leaves, input)
@@ -82,10 +87,14 @@ fn turn_after(
 }
 
 // The tally of all files of the input. It ends, since the tally refuses the 1,000,001st.
-fn tally_files(header: Header, table: &[u32], leaves: &[u32], input: Descriptor) -> Tally
-    requires { ⌜ Prepared header (now table) (now leaves) ⌝ }
-    ensures { λ r. ⌜ ((p : Prepared header (now (table .entry)) (now (leaves .entry)))
-        → Tallied input header (content (p .file)) r) ⌝ }
+fn tally_files(
+    header: Header,
+    table: &TransitionTable,
+    leaves: &LeafTable,
+    input: Descriptor,
+) -> Tally
+    requires { ⌜ WithinLimits header ⌝ }
+    ensures { λ r. ⌜ ((A : Automaton) → Ready A header (now (table .entry)) (now (leaves .entry)) → Tallied input A r) ⌝ }
 {
     let mut tally = Tally {
         accepted: 0,
@@ -119,12 +128,12 @@ fn print_refused(refusal: Refusal) -> bool
     print(&out[..end])
 }
 
-fn print_head(file: &[u8], header: Header, table: &[u32], leaves: &[u32]) -> bool
-    requires { ⌜ PreparedOf (now file) header (now table) (now leaves) ⌝ }
-    ensures { λ r. ⌜ Handed (headOf header (content (now (file .entry)))) r ⌝ }
+fn print_head(contents: &[u8], header: Header, table: &TransitionTable, leaves: &LeafTable) -> bool
+    requires { ⌜ LaidOut header (now contents) × Ready (automatonOf header (now contents)) header (now table) (now leaves) ⌝ }
+    ensures { λ r. ⌜ Handed (headOf header (now (contents .entry))) r ⌝ }
 {
     let mut out = [0u8; 232];
-    let end = wording::put_read(&mut out, file, header, table, leaves);
+    let end = report_text::put_read(&mut out, contents, header, table, leaves);
     print(&out[..end])
 }
 
@@ -139,12 +148,14 @@ fn print_tally(tally: Tally) -> bool
 fn report_file(file: &[u8], input: Descriptor) -> bool
     ensures { λ r. ⌜ Reported (now (file .entry)) input r ⌝ }
 {
+    let mut contents = [0u8; 3048];
     let mut table = [0u32; 9216];
     let mut leaves = [0u32; 1536];
-    match overloops::prepare(file, &mut table, &mut leaves) {
+    match overloops::prepare(file, &mut contents, &mut table, &mut leaves) {
         Parsed::Refused(refusal) => print_refused(refusal),
         Parsed::Read(header) => {
-            let first = print_head(file, header, &table, &leaves);
+            let len = blocks::content_length(file);
+            let first = print_head(&contents[..len], header, &table, &leaves);
             let tally = tally_files(header, &table, &leaves, input);
             let last = print_tally(tally);
             first & last

@@ -13,7 +13,7 @@ slice-aggregate-put-read : tie.Need-slice-aggregate-put-read
 slice-aggregate-put-read c = search needs
 
 put-read-requires : tie.Need-put-read-requires
-put-read-requires c κs = (search needs, c .before .before .before .before .pre)
+put-read-requires c κs = let pre = c .before .before .pre in (search needs, pre .0, pre .1)
 
 array-share-prefix-out : tie.Need-array-share-prefix-out
 array-share-prefix-out c = search needs

@@ -11,7 +11,7 @@ turn-into-requires : tie.Need-turn-into-requires
 turn-into-requires c κs = search needs
 
 returns : tie.Need-returns
-returns c p = let q = c .before .turn-into .ensures p in (_, q .1, q .2)
+returns c A k = let q = c .before .turn-into .ensures A k in (_, q .1, q .2)
 
 pub read-turn-spec : {M : Type 1} → statement M
 read-turn-spec = tie.close (tie.spec slice-aggregate-turn-into turn-into-requires returns)

@@ -1,16 +1,33 @@
 -- `reporting::report_file` meets its contract: by what reading says.
 -- Assumes nothing.
 use borrow.Author.Needs.{needs}
-use mathlib.Core.Path.{refl, sym, _∙_}
-use Rattle.overloops.specs.Prepared.{Prepared}
-use Rattle.overloops.proofs.Laws.{prepared-read, prepared-of}
+use native.Mathlib.Omega.{arith}
+use mathlib.Core.Path.{_≡_, refl, sym, ap, _∙_}
+use lib.ListN.{length, take, length-take}
+use Rattle.blocks.specs.Blocks.{content}
+use Rattle.automaton.specs.File.{WithinLimits, parsed}
+use Rattle.automaton.specs.declared.file.Parsed.{Parsed}
+use Rattle.automaton.proofs.Passed.{file-read, contents-are}
+use Rattle.transitions.specs.Transitions.{automatonOf}
+use Rattle.overloops.specs.Ready.{Ready}
+use Rattle.overloops.proofs.Laws.{prepared-ready}
 use Rattle.reporting.proofs.Laws.{reported-refused, reported-read}
 use Rattle.reporting.proofs.report_file.Statement.{statement}
 use Rattle.reporting.proofs.report_file.Tie as tie
 
--- the tables are prepared
-abbrev prepared : (c : tie.After-known-told2) → Prepared (c .before .header .given .0 .0) (c .before .before .before .prepare .last .1 .0) (c .before .before .before .prepare .last .1 .1 .0)
-prepared c = prepared-read _ _ _ _ _ _ _ (c .before .header .given .1) (c .before .before .before .prepare .ensures .0) (c .before .before .before .prepare .ensures .1)
+-- the file reads, and its automaton is ready
+read-is : (c : tie.After-known-told2) → parsed (c .before .before .before .before .before .before .before .before .args .file .now) ≡ Parsed.Read (c .before .header .given .0 .0)
+read-is c = sym (c .before .before .before .prepare .ensures .0) ∙ c .before .header .given .1
+
+ready : (c : tie.After-known-told2) → let h = c .before .header .given .0 .0 in
+    WithinLimits h
+    × Ready (automatonOf h (content (c .before .before .before .before .before .before .before .before .args .file .now))) h (c .before .before .before .prepare .last .1 .1 .0) (c .before .before .before .prepare .last .1 .1 .1 .0)
+ready c = prepared-ready _ _ _ _ _ _ _ (c .before .header .given .1) (c .before .before .before .prepare .ensures .2)
+
+-- the part of the buffer that is lent on holds the joined contents
+content-is : (c : tie.After-content-length) → take (c .content-length .result) (c .before .before .before .before .prepare .last .1 .0) ≡ content (c .before .before .before .before .before .before .before .before .before .args .file .now)
+content-is c =
+    contents-are _ _ _ _ (c .before .before .header .given .0 .0) _ (c .before .before .header .given .1) (c .before .before .before .before .prepare .ensures .1) (c .content-length .ensures)
 
 prepare-requires : tie.Need-prepare-requires
 prepare-requires c κs = search needs
@@ -24,25 +41,21 @@ print-refused-requires c κs = search needs
 enum-known-header : tie.Need-enum-known-header
 enum-known-header c = search needs
 
-slice-aggregate-print-head : tie.Need-slice-aggregate-print-head
-slice-aggregate-print-head c = sym (prepared (c .before) .compiled .size)
+content-length-requires : tie.Need-content-length-requires
+content-length-requires c κs = search needs
 
-slice-aggregate-print-head-2 : tie.Need-slice-aggregate-print-head-2
-slice-aggregate-print-head-2 c = sym (prepared (c .before .before) .leaves-are .size)
+array-share-prefix-contents : tie.Need-array-share-prefix-contents
+array-share-prefix-contents c =
+    omega (arith, length-take (c .content-length .result) (c .before .before .before .before .prepare .last .1 .0), ap length (content-is c), c .content-length .ensures)
+
+slice-aggregate-print-head : tie.Need-slice-aggregate-print-head
+slice-aggregate-print-head c = rw (content-is (c .before)) (c .before .content-length .ensures)
 
 print-head-requires : tie.Need-print-head-requires
-print-head-requires c κs =
-    let told = c .before .before in
-    prepared-of _ _ _ _ _ _ _ (told .before .header .given .1) (told .before .before .before .prepare .ensures .0) (told .before .before .before .prepare .ensures .1)
-
-slice-aggregate-tally-files : tie.Need-slice-aggregate-tally-files
-slice-aggregate-tally-files c = sym (prepared (c .before .before .before .before) .compiled .size)
-
-slice-aggregate-tally-files-2 : tie.Need-slice-aggregate-tally-files-2
-slice-aggregate-tally-files-2 c = sym (prepared (c .before .before .before .before .before) .leaves-are .size)
+print-head-requires c κs = rw (content-is (c .before .before .before)) (file-read _ _ (read-is (c .before .before .before .before)) .laid-out, ready (c .before .before .before .before) .1)
 
 tally-files-requires : tie.Need-tally-files-requires
-tally-files-requires c κs = prepared (c .before .before .before .before .before)
+tally-files-requires c κs = ready (c .before .before .before .before .before .before .before) .0
 
 print-tally-requires : tie.Need-print-tally-requires
 print-tally-requires c κs = search needs
@@ -52,9 +65,9 @@ returns c = reported-refused _ _ _ _ (sym (c .before .before .before .before .pr
 
 returns-2 : tie.Need-returns-2
 returns-2 c =
-    let told = c .before .before .before .before .before .before .before in
-    let reads = sym (told .before .before .before .prepare .ensures .0) ∙ told .before .header .given .1 in
-    reported-read _ _ _ _ _ _ _ reads (c .before .tally-files .ensures (prepared told)) (c .before .before .before .before .print-head .ensures) (c .print-tally .ensures) refl
+    let told = c .before .before .before .before .before .before .before .before .before in
+    let head = rw (content-is (c .before .before .before .before .before .before .before .before)) at (c .before .before .before .before .print-head .ensures) in
+    reported-read _ _ _ _ _ _ _ (read-is told) (c .before .tally-files .ensures _ (ready told .1)) head (c .print-tally .ensures) refl
 
 pub report-file-spec : {M : Type 1} → statement M
 report-file-spec =
@@ -64,11 +77,10 @@ report-file-spec =
     enum-known-refusal
     print-refused-requires
     enum-known-header
+    content-length-requires
+    array-share-prefix-contents
     slice-aggregate-print-head
-    slice-aggregate-print-head-2
     print-head-requires
-    slice-aggregate-tally-files
-    slice-aggregate-tally-files-2
     tally-files-requires
     print-tally-requires
     returns

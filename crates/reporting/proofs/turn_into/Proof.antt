@@ -27,7 +27,7 @@ le : (c : tie.Else1) → 512 ≤ c .before .before .before .read-part .result
 le c = search needs
 
 returns : tie.Need-returns
-returns c p = (c .before .before .before .before .before .read-part .result, c .turn-in .ensures p, cut-short _ (c .before .before .before .before .before .read-part .last .1 .0) (c .before .before .before .before .before .read-part .result) (search needs) (search needs) (c .before .before .before .before .before .read-part .ensures .2))
+returns c A k = (c .before .before .before .before .before .read-part .result, c .turn-in .ensures .1 A k, cut-short _ (c .before .before .before .before .before .read-part .last .1 .0) (c .before .before .before .before .before .read-part .result) (search needs) (search needs) (c .before .before .before .before .before .read-part .ensures .2))
 
 slice-reshare-prefix-first-length : tie.Need-slice-reshare-prefix-first-length
 slice-reshare-prefix-first-length c = search needs
@@ -57,7 +57,7 @@ same-length-2 : tie.Need-same-length-2
 same-length-2 c = search needs
 
 returns-2 : tie.Need-returns-2
-returns-2 c p = (512 + c .before .before .before .before .read-part2 .result, c .turn-in2 .ensures p, one-file _ (c .before .before .before .before .before .before .before .before .before .before .before .read-part .last .1 .0) (c .before .before .before .before .read-part2 .last .1 .0) _ (c .before .before .before .before .read-part2 .result) _ (c .before .before .before .before .before .before .first-length .ensures .0) (c .before .before .before .before .read-part2 .ensures .1) (search needs) (le (c .before .before .before .before .before .before .before .before)) (c .before .before .before .before .before .before .before .before .before .before .before .read-part .ensures .2) (c .before .before .before .before .read-part2 .ensures .2))
+returns-2 c A k = (512 + c .before .before .before .before .read-part2 .result, c .turn-in2 .ensures .1 A k, one-file _ (c .before .before .before .before .before .before .before .before .before .before .before .read-part .last .1 .0) (c .before .before .before .before .read-part2 .last .1 .0) _ (c .before .before .before .before .read-part2 .result) _ (c .before .before .before .before .before .before .first-length .ensures .0) (c .before .before .before .before .read-part2 .ensures .1) (search needs) (le (c .before .before .before .before .before .before .before .before)) (c .before .before .before .before .before .before .before .before .before .before .before .read-part .ensures .2) (c .before .before .before .before .read-part2 .ensures .2))
 
 pub turn-into-spec : {M : Type 1} → statement M
 turn-into-spec =
