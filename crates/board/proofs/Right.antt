@@ -68,7 +68,7 @@ letterSeen h (ParsedTree.Nodes k) w s =
 
 judgingSeen : Parsed → (w s : List ℕ) → Seen
 judgingSeen (Parsed.Refused r) w s = refused
-judgingSeen (Parsed.Read h) w s = letterSeen h (readTree (signatureOf h) s) w s
+judgingSeen (Parsed.Read h) w s = letterSeen h (readTree (signatureOf (automatonOf h (content w))) s) w s
 
 planOf : Verdict → List ℕ
 planOf (Found h p) = planBytes p
@@ -95,7 +95,7 @@ said (seals symbols check) = sealed-as check check
 -- ---- a judged tree
 
 judging-read : (p : Parsed) (w s : List ℕ) (t : Tree) (b : Bool) → judgingSeen p w s ≡ judged-as t b
-    → (h : Header) × (p ≡ Parsed.Read h) × (letterSeen h (readTree (signatureOf h) s) w s ≡ judged-as t b)
+    → (h : Header) × (p ≡ Parsed.Read h) × (letterSeen h (readTree (signatureOf (automatonOf h (content w))) s) w s ≡ judged-as t b)
 unfolding judgingSeen
 judging-read (Parsed.Refused r) w s t b e = clash (cc)
 judging-read (Parsed.Read h) w s t b e = (h, refl, e)
@@ -110,7 +110,7 @@ letter-nodes h (ParsedTree.Nodes k) w s t b e =
     let answer : accepts? (automatonOf h (content w)) u ≡ b = cc in
     (k, refl, same, rw same at answer)
 
-answer-is : (w s : List ℕ) (h : Header) (k : ℕ) (t : Tree) (b : Bool) → parsed w ≡ Parsed.Read h → readTree (signatureOf h) s ≡ ParsedTree.Nodes k
+answer-is : (w s : List ℕ) (h : Header) (k : ℕ) (t : Tree) (b : Bool) → parsed w ≡ Parsed.Read h → readTree (signatureOf (automatonOf h (content w))) s ≡ ParsedTree.Nodes k
     → treeOf (h .branches) (nodesOf k (content s)) ≡ t → accepts? (automatonOf h (content w)) t ≡ b → judged w s ≡ acceptedIf b
 unfolding judged judgedBy
 answer-is w s h k t b read letter-read same accepted = rw (read, letter-read, same, accepted)
@@ -121,18 +121,19 @@ told-run true a e f = (λ x. tt, λ t. f .0 e)
 told-run false a e f = (λ x. let z : a ≡ Answer.Accepted = f .1 x in clash (cc), λ t. absurd t)
 
 -- a run of the one tree that a list writes
-run-is : (A : Automaton) (sg : Signature) (nodes : List ℕ) (t : Tree) (b : Bool) (a : Answer)
-    → Judges A sg nodes a → Writes sg nodes t → a ≡ acceptedIf b → Accepted A t ↔ T b
-run-is A sg nodes t b a right written e = rw (right .one t written) (told-run b a e (right .accepted))
+run-is : (A : Automaton) (nodes : List ℕ) (t : Tree) (b : Bool) (a : Answer)
+    → Judges A nodes a → Writes (signatureOf A) nodes t → a ≡ acceptedIf b → Accepted A t ↔ T b
+run-is A nodes t b a right written e = rw (right .one t written) (told-run b a e (right .accepted))
 
 judges-right : (w s : List ℕ) (t : Tree) (b : Bool) → judgingSeen (parsed w) w s ≡ judged-as t b → JudgesRight w s t b
 judges-right w s t b e =
     let first = judging-read (parsed w) w s t b e in
     let h = first .0 in
-    let second = letter-nodes h (readTree (signatureOf h) s) w s t b (first .2) in
+    let sg = signatureOf (automatonOf h (content w)) in
+    let second = letter-nodes h (readTree sg s) w s t b (first .2) in
     let k = second .0 in
     let answer = answer-is w s h k t b (first .1) (second .1) (second .2) (second .3) in
-    let written : Writes (signatureOf h) (nodesOf k (content s)) t = rw (second .2) at (tree-read (signatureOf h) s k (second .1) .tree) in
+    let written : Writes sg (nodesOf k (content s)) t = rw (second .2) at (tree-read sg s k (second .1) .tree) in
     record {
       header = h;
       read = first .1;
@@ -140,7 +141,7 @@ judges-right w s t b e =
       letter-read = second .1;
       writes = written;
       answer = answer;
-      run = run-is _ _ _ t b (judged w s) (judged-right w s h k (first .1) (second .1)) written answer;
+      run = run-is _ _ t b (judged w s) (judged-right w s h k (first .1) (second .1)) written answer;
     }
 
 -- ---- a survey and a quick check

@@ -54,8 +54,8 @@ pub record JudgesRight (w s : List ℕ) (t : Tree) (accepted : Bool) : Type 0 wh
   pub header : Header
   pub read : parsed w ≡ Parsed.Read header
   pub nodes : ℕ
-  pub letter-read : readTree (signatureOf header) s ≡ ParsedTree.Nodes nodes
-  pub writes : Writes (signatureOf header) (nodesOf nodes (content s)) t
+  pub letter-read : readTree (signatureOf (automatonOf header (content w))) s ≡ ParsedTree.Nodes nodes
+  pub writes : Writes (signatureOf (automatonOf header (content w))) (nodesOf nodes (content s)) t
   pub answer : judged w s ≡ acceptedIf accepted
   pub run : Accepted (automatonOf header (content w)) t ↔ T accepted
 

@@ -77,8 +77,9 @@ fn print_tree(file: &[u8], header: Header) {
 
 // One case: the tree's file is read where there is one and the automaton's file reads.
 fn print_case(automaton: &[u8], tree: &[u8], with_tree: bool) {
+    let mut contents = [0u8; 3048];
     let mut table = [0u32; 9216];
-    match transitions::load(automaton, &mut table) {
+    match transitions::load(automaton, &mut contents, &mut table) {
         Parsed::Refused(refusal) => print_refusal(refusal),
         Parsed::Read(header) => {
             if with_tree {
@@ -91,15 +92,6 @@ fn print_case(automaton: &[u8], tree: &[u8], with_tree: bool) {
         }
     }
     io::write_all(1, b"\n");
-}
-
-// The first n bytes of a buffer, or none where it has fewer.
-fn front(buffer: &[u8], n: usize) -> &[u8] {
-    if n <= buffer.len() {
-        &buffer[..n]
-    } else {
-        &buffer[..0]
-    }
 }
 
 // Fills the first n bytes of a buffer from the input; false where either is shorter.
@@ -149,11 +141,11 @@ fn one_case() -> bool {
     if !read_case(&head, &mut label, &mut automaton, &mut tree) {
         return false;
     }
-    io::write_all(1, front(&label, wide(head[0])));
+    io::write_all(1, blocks::front(&label, wide(head[0])));
     io::write_all(1, b":");
     print_case(
-        front(&automaton, pair_at(&head, 1)),
-        front(&tree, tree_length(&head)),
+        blocks::front(&automaton, pair_at(&head, 1)),
+        blocks::front(&tree, tree_length(&head)),
         has_tree(&head),
     );
     true

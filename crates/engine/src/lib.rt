@@ -17,7 +17,7 @@ ghost use Rattle.transitions.specs.Single.{singleOf};
 ghost use Rattle.tally.specs.Tally.{countedUp, percentOf};
 ghost use Rattle.batch.specs.Batch.{talliedOf};
 ghost use Rattle.text.specs.Appended.{Appended};
-ghost use Rattle.wording.specs.Report.{reportOf};
+ghost use Rattle.report_text.specs.Report.{reportOf};
 
 // Whether an automaton's file accepts a tree's file.
 pub fn judge(automaton: &[u8], tree: &[u8]) -> Answer
@@ -76,5 +76,5 @@ pub fn tally(automaton: &[u8], trees: &[u8], before: Tally) -> Tallied
 pub fn report(automaton: &[u8], trees: &[u8], text: &mut [u8; 357]) -> usize
     ensures { λ r. ⌜ Appended (now (text .entry)) 0 (reportOf (now (automaton .entry)) (now (trees .entry))) (now (text .exit)) r ⌝ }
 {
-    wording::report_bytes(automaton, trees, text)
+    report_text::report_bytes(automaton, trees, text)
 }

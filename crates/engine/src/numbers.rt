@@ -19,7 +19,7 @@ ghost use Rattle.transitions.specs.Single.{singleOf};
 ghost use Rattle.tally.specs.Tally.{countedUp, percentOf};
 ghost use Rattle.batch.specs.Batch.{talliedOf};
 ghost use Rattle.text.specs.Appended.{Appended};
-ghost use Rattle.wording.specs.Report.{reportOf};
+ghost use Rattle.report_text.specs.Report.{reportOf};
 ghost use Rattle.engine.specs.Numbers.{refusalTold, answerNumber, answerTold, surveyNumber, surveyTold, quickNumber, quickTold, singleNumber, singleTold, outcomeNumbered, tallyOf, tallyNumbers, checkNumber, checkTold, judgedTally};
 
 fn put_refusal(refusal: Refusal, told: &mut [usize; 3])
