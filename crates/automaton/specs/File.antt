@@ -5,7 +5,7 @@ use mathlib.Core.Bool.{Bool, not}
 use mathlib.Core.List.{List, _++_}
 use lib.ListN.{length, getD, drop}
 use lib.Dec.{eqb}
-use Rattle.blocks.specs.Blocks.{wordAt, content}
+use Rattle.blocks.specs.Blocks.{halfAt, wordAt, content}
 use Rattle.refusal.specs.Checks.{refuseIf, _andThen_, checkEach}
 use Rattle.refusal.specs.Lines.{fileCheck, kindCheck, countCheck, sizeCheck, fillerCheck}
 use Rattle.refusal.specs.declared.Check.{Check}
@@ -26,7 +26,7 @@ headerOf p =
     record {
       states = getD p 1 0;
       symbols = getD p 2 0;
-      rules = getD p 4 0 + 256 * getD p 5 0;
+      rules = halfAt p 4;
       initial = wordAt p 8;
       accepting = wordAt p 12;
       branches = wordAt p 16;

@@ -30,12 +30,6 @@ const FORMAT: Format = Format {
     zeros: 200,
 };
 
-fn wide(b: u8) -> u16
-    ensures { λ r. ⌜ (r ≡ b) × (r ≤ 255) ⌝ }
-{
-    b as u16
-}
-
 // The counts and the sets.
 fn header(content: &[u8]) -> Header
     requires { ⌜ 20 ≤ length (now content) ⌝ }
@@ -44,7 +38,7 @@ fn header(content: &[u8]) -> Header
     Header {
         states: content[1],
         symbols: content[2],
-        rules: wide(content[4]) + 256 * wide(content[5]),
+        rules: blocks::half_at(content, 4),
         initial: blocks::word_at(content, 8),
         accepting: blocks::word_at(content, 12),
         branches: blocks::word_at(content, 16),

@@ -12,10 +12,12 @@ use refusal::Check;
 use refusal::Fault;
 use refusal::refused;
 ghost use mathlib.Core.Path.{_≡_};
+ghost use mathlib.Core.Bool.{_&&_};
 ghost use Prim.Native.Nat.{_+_, _*_, _≤_, _<_};
+ghost use lib.Dec.{ltb};
 ghost use lib.ListN.{length};
 ghost use Rattle.refusal.specs.Checks.{checkEach};
-ghost use Rattle.automaton.specs.Rules.{sortPlace, sortMove, ruleAt, mayBeRoot, misplaced, ruleCheck};
+ghost use Rattle.automaton.specs.Rules.{sortPlace, sortMove, sorted, ruleAt, mayBeRoot, misplaced, ruleCheck};
 
 pub enum PlaceByte {
     Known(Scope),
@@ -58,28 +60,14 @@ fn sort_move(b: u8) -> MoveByte
     }
 }
 
-// Rule i, where each of its five bytes has a value that there is.
-pub fn rule_at(content: &[u8], header: Header, i: usize) -> RuleBytes
-    requires { ⌜ 25 + 5 * i ≤ length (now content) ⌝ }
-    ensures { λ r. ⌜ r ≡ ruleAt header (now (content .entry)) i ⌝ }
+// The rule of five bytes, where the place and the move are known.
+fn sort_rule(symbol: u8, state: u8, place: u8, step: u8, next: u8) -> RuleBytes
+    ensures { λ r. ⌜ r ≡ sorted symbol state (sortPlace place) (sortMove step) next ⌝ }
 {
-    let at = 20 + 5 * i;
-    let symbol = content[at];
-    let state = content[at + 1];
-    let next = content[at + 4];
-    if header.symbols <= symbol {
-        return RuleBytes::Unknown;
-    }
-    if header.states <= state {
-        return RuleBytes::Unknown;
-    }
-    if header.states <= next {
-        return RuleBytes::Unknown;
-    }
-    let PlaceByte::Known(scope) = sort_place(content[at + 2]) else {
+    let PlaceByte::Known(scope) = sort_place(place) else {
         return RuleBytes::Unknown;
     };
-    let MoveByte::Known(step) = sort_move(content[at + 3]) else {
+    let MoveByte::Known(step) = sort_move(step) else {
         return RuleBytes::Unknown;
     };
     RuleBytes::Known(Rule {
@@ -89,6 +77,34 @@ pub fn rule_at(content: &[u8], header: Header, i: usize) -> RuleBytes
         step,
         next: State(next),
     })
+}
+
+// Whether the automaton has the symbol and the two states of a rule.
+fn are_known(header: Header, symbol: u8, state: u8, next: u8) -> bool
+    ensures { λ r. ⌜ r ≡ (ltb symbol (header .symbols) && ltb state (header .states) && ltb next (header .states)) ⌝ }
+{
+    if header.symbols <= symbol {
+        return false;
+    }
+    if header.states <= state {
+        return false;
+    }
+    next < header.states
+}
+
+// Rule i, where each of its five bytes has a value that there is.
+pub fn rule_at(content: &[u8], header: Header, i: usize) -> RuleBytes
+    requires { ⌜ 25 + 5 * i ≤ length (now content) ⌝ }
+    ensures { λ r. ⌜ r ≡ ruleAt header (now (content .entry)) i ⌝ }
+{
+    let at = 20 + 5 * i;
+    let symbol = content[at];
+    let state = content[at + 1];
+    let next = content[at + 4];
+    if are_known(header, symbol, state, next) {
+        return sort_rule(symbol, state, content[at + 2], content[at + 3], next);
+    }
+    RuleBytes::Unknown
 }
 
 // Whether a rule may apply at the root.

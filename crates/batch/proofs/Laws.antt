@@ -6,9 +6,9 @@ use mathlib.Core.List.{List}
 use native.Mathlib.Omega.{arith}
 use borrow.Author.Tests.{ltb-false, eq-eqb, ne-eqb, lt-ltb, le-ltb, le-leb, lt-leb}
 use lib.Dec.{eqb, ltb, leb}
-use lib.ListN.{length, getD, take, drop, length-drop, drop-of-length-le}
+use lib.ListN.{length, take, drop, length-drop, drop-of-length-le}
 use lib.Seq.{drop-drop, drop-length}
-use Rattle.blocks.specs.Blocks.{content}
+use Rattle.blocks.specs.Blocks.{halfAt, content}
 use Rattle.refusal.specs.declared.Check.{Check}
 use Rattle.refusal.specs.declared.Refusal.{Refusal}
 use Rattle.refusal.proofs.Passed.{clash}
@@ -28,26 +28,20 @@ use Rattle.batch.specs.declared.Turn.{Turn}
 
 -- ---- the length of a file
 
-abbrev nodesIn : List ℕ → ℕ
-nodesIn first = getD first 2 0 + 256 * getD first 3 0
-
 pub blocks-short : (first : List ℕ) → length first < 4 → 1 ≡ fileBlocks first
 unfolding fileBlocks
 blocks-short first h = rw (lt-leb 4 (length first) h) refl
 
-module _ (first : List ℕ) (header : 4 ≤ length first) (a b : ℕ) (ea : a ≡ getD first 2 0) (eb : b ≡ getD first 3 0) where
-  count : a + 256 * b ≡ nodesIn first
-  count = rw (ea, eb) refl
-
-  pub blocks-many : 4096 < a + 256 * b → 1 ≡ fileBlocks first
+module _ (first : List ℕ) (header : 4 ≤ length first) (n : ℕ) (e : n ≡ halfAt first 2) where
+  pub blocks-many : 4096 < n → 1 ≡ fileBlocks first
   unfolding fileBlocks
-  blocks-many h = rw (le-leb 4 (length first) header, lt-leb (nodesIn first) 4096 (rw count at h)) refl
+  blocks-many h = rw (le-leb 4 (length first) header, lt-leb (halfAt first 2) 4096 (rw e at h)) refl
 
-  pub blocks-few : a + 256 * b ≤ 4096 → (a + 256 * b + 511) / 508 ≡ fileBlocks first
+  pub blocks-few : n ≤ 4096 → (n + 511) / 508 ≡ fileBlocks first
   unfolding fileBlocks
   blocks-few h =
-      let sum : a + 256 * b + 511 ≡ 4 + nodesIn first + 507 = omega (arith, count) in
-      rw (le-leb 4 (length first) header, le-leb (nodesIn first) 4096 (rw count at h), sum) refl
+      let sum : n + 511 ≡ 4 + halfAt first 2 + 507 = omega (arith, e) in
+      rw (le-leb 4 (length first) header, le-leb (halfAt first 2) 4096 (rw e at h), sum) refl
 
 some-blocks : (few : Bool) (n : ℕ) → 1 ≤ blocksOf few n
 some-blocks true n = omega arith
@@ -55,7 +49,7 @@ some-blocks false n = omega arith
 
 pub some-block : (s : List ℕ) → 1 ≤ fileBlocks s
 unfolding fileBlocks
-some-block s = some-blocks (leb 4 (length s) && leb (nodesIn s) 4096) (nodesIn s)
+some-block s = some-blocks (leb 4 (length s) && leb (halfAt s 2) 4096) (halfAt s 2)
 
 pub told-length : (s f : List ℕ) (b : ℕ) → f ≡ take 512 s → b ≡ fileBlocks f → 512 * b ≡ firstLength s
 told-length s f b e g = rw (g, e) refl

@@ -6,7 +6,7 @@ use native.Mathlib.Omega.{arith}
 use borrow.Author.Tests.{eqb-true, le-leb, not-false}
 use lib.ListN.{length, getD, take}
 use lib.Seq.{getD-take, length-take-le}
-use Rattle.blocks.specs.Blocks.{content}
+use Rattle.blocks.specs.Blocks.{halfAt, content}
 use Rattle.blocks.proofs.Laws.{content-length, content-at}
 use Rattle.refusal.specs.Checks.{_andThen_}
 use Rattle.refusal.specs.Lines.{fileCheck, kindCheck, countCheck, blocksNeeded, sizeCheck}
@@ -28,7 +28,7 @@ header-byte s i long few =
     let place : i / 508 * 512 + i % 508 ≡ i = omega arith in
     content-at s i (omega arith) ∙ ap (λ (n : ℕ). getD s n 0) place ∙ sym (getD-take 512 s i 0 (omega arith))
 
-blocks-of : (first : List ℕ) (nodes : ℕ) → 4 ≤ length first → nodes ≡ getD first 2 0 + 256 * getD first 3 0 → nodes ≤ 4096
+blocks-of : (first : List ℕ) (nodes : ℕ) → 4 ≤ length first → nodes ≡ halfAt first 2 → nodes ≤ 4096
     → fileBlocks first ≡ blocksNeeded (4 + nodes)
 unfolding fileBlocks
 blocks-of first nodes h e l = rw (← e, le-leb 4 (length first) h, le-leb nodes 4096 l) refl

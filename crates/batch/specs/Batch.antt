@@ -4,8 +4,9 @@
 use mathlib.Core.Bool.{Bool, true, false, not, cond, _&&_}
 use mathlib.Core.List.{List}
 use Prim.Native.Nat.{ℕ, zero, suc, _+_, _*_}
-use lib.ListN.{length, getD, take, drop}
+use lib.ListN.{length, take, drop}
 use lib.Dec.{eqb, ltb, leb}
+use Rattle.blocks.specs.Blocks.{halfAt}
 use Rattle.refusal.specs.Lines.{blocksNeeded}
 use Rattle.refusal.specs.declared.Check.{Check}
 use Rattle.transitions.specs.Transitions.{byAutomaton}
@@ -28,7 +29,7 @@ blocksOf false nodes = 1
 
 unfoldable pub fileBlocks : List ℕ → ℕ
 fileBlocks first =
-    let nodes = getD first 2 0 + 256 * getD first 3 0 in
+    let nodes = halfAt first 2 in
     blocksOf (leb 4 (length first) && leb nodes 4096) nodes
 
 -- of the file that stands first in s, in bytes

@@ -26,12 +26,6 @@ pub enum Turn {
     File(Outcome, bool),
 }
 
-fn wide(b: u8) -> usize
-    ensures { λ r. ⌜ (r ≡ b) × (r ≤ 255) ⌝ }
-{
-    b as usize
-}
-
 // The blocks of a file by its first block: as many as its nodes need, or one where their number is outside its limits.
 fn file_blocks(first: &[u8]) -> usize
     ensures { λ r. ⌜ (r ≡ fileBlocks (now (first .entry))) × (1 ≤ r) × (r ≤ 9) ⌝ }
@@ -39,7 +33,7 @@ fn file_blocks(first: &[u8]) -> usize
     if first.len() < 4 {
         return 1;
     }
-    let nodes = wide(first[2]) + 256 * wide(first[3]);
+    let nodes = blocks::half_at(first, 2) as usize;
     if 4096 < nodes {
         return 1;
     }

@@ -11,12 +11,8 @@ file-blocks-spec =
     tie.close
     (tie.spec
     (λ c. (blocks-short _ (search needs), search needs, search needs))
-    (λ c. search needs)
     (λ c κs. search needs)
     (λ c. search needs)
-    (λ c κs. search needs)
+    (λ c. (blocks-many (c .before .before .before .before .args .first .now) (search needs) _ (c .before .half-at .ensures) (search needs), search needs, search needs))
     (λ c. search needs)
-    (λ c. search needs)
-    (λ c. (blocks-many (c .before .before .before .before .before .before .before .args .first .now) (search needs) _ _ (c .before .before .before .wide .ensures .0) (c .before .wide2 .ensures .0) (search needs), search needs, search needs))
-    (λ c. search needs)
-    (λ c. (blocks-few (c .before .before .before .before .before .before .before .args .first .now) (search needs) _ _ (c .before .before .before .wide .ensures .0) (c .before .wide2 .ensures .0) (search needs), omega arith, omega arith)))
+    (λ c. (blocks-few (c .before .before .before .before .args .first .now) (search needs) _ (c .before .half-at .ensures) (search needs), omega arith, omega arith)))
