@@ -1,4 +1,5 @@
 // Writes the file that holds a payload: the fewest blocks, zero filler, right checks.
+use blocks::wide;
 ghost use mathlib.Core.Path.{_≡_};
 ghost use mathlib.Core.List.{_++_};
 ghost use Prim.Native.Nat.{_+_, _*_, _/_, _%_, _<_, _≤_};
@@ -11,12 +12,6 @@ fn byte_at(payload: &[u8], at: usize) -> u8
     ensures { λ r. ⌜ (r ≡ getD (now (payload .entry)) at 0) × (r < 256) ⌝ }
 {
     if at < payload.len() { payload[at] } else { 0 }
-}
-
-fn wide(b: u8) -> u32
-    ensures { λ r. ⌜ (r ≡ b) × (r < 256) ⌝ }
-{
-    b as u32
 }
 
 // The 32-bit word at an offset, lowest byte first, with zeros past the end.

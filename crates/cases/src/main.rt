@@ -7,13 +7,8 @@ use model::Signature;
 use refusal::Refusal;
 use transitions::single::Singleness;
 use tree::file::ParsedTree;
-ghost use Prim.Native.Nat.{_≤_};
-
-fn wide(b: u8) -> usize
-    ensures { λ r. ⌜ r ≤ 255 ⌝ }
-{
-    b as usize
-}
+ghost use Prim.Native.Nat.{_+_, _≤_};
+ghost use lib.ListN.{length};
 
 fn number(label: &[u8], n: u64) {
     io::write_all(1, label);
@@ -102,12 +97,10 @@ fn read_front(buffer: &mut [u8], n: usize) -> bool {
     io::read_full(0, &mut buffer[..n]) == n
 }
 
-// The number of two bytes, low byte first.
-fn pair_at(head: &[u8; 5], at: usize) -> usize
-    requires { ⌜ at ≤ 3 ⌝ }
-    ensures { λ r. ⌜ r ≤ 65535 ⌝ }
+fn pair_at(head: &[u8], at: usize) -> usize
+    requires { ⌜ at + 2 ≤ length (now head) ⌝ }
 {
-    wide(head[at]) + 256 * wide(head[at + 1])
+    blocks::half_at(head, at) as usize
 }
 
 fn has_tree(head: &[u8; 5]) -> bool {
@@ -120,7 +113,7 @@ fn tree_length(head: &[u8; 5]) -> usize {
 
 // The label and the two files of a case; false where the input ends before.
 fn read_case(head: &[u8; 5], label: &mut [u8], automaton: &mut [u8], tree: &mut [u8]) -> bool {
-    if !read_front(label, wide(head[0])) {
+    if !read_front(label, head[0] as usize) {
         return false;
     }
     if !read_front(automaton, pair_at(head, 1)) {
@@ -141,7 +134,7 @@ fn one_case() -> bool {
     if !read_case(&head, &mut label, &mut automaton, &mut tree) {
         return false;
     }
-    io::write_all(1, blocks::front(&label, wide(head[0])));
+    io::write_all(1, blocks::front(&label, head[0] as usize));
     io::write_all(1, b":");
     print_case(
         blocks::front(&automaton, pair_at(&head, 1)),
