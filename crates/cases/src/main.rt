@@ -113,7 +113,7 @@ fn tree_length(head: &[u8; 5]) -> usize {
 
 // The label and the two files of a case; false where the input ends before.
 fn read_case(head: &[u8; 5], label: &mut [u8], automaton: &mut [u8], tree: &mut [u8]) -> bool {
-    if !read_front(label, head[0] as usize) {
+    if !read_front(label, blocks::wide(head[0]) as usize) {
         return false;
     }
     if !read_front(automaton, pair_at(head, 1)) {
@@ -134,7 +134,7 @@ fn one_case() -> bool {
     if !read_case(&head, &mut label, &mut automaton, &mut tree) {
         return false;
     }
-    io::write_all(1, blocks::front(&label, head[0] as usize));
+    io::write_all(1, blocks::front(&label, blocks::wide(head[0]) as usize));
     io::write_all(1, b":");
     print_case(
         blocks::front(&automaton, pair_at(&head, 1)),
