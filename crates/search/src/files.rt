@@ -96,6 +96,22 @@ pub fn write_tree(file: &mut [u8], nodes: &[usize], size: usize) -> usize {
     seal(file, size % 32768 + 4)
 }
 
+fn put_list(file: &mut [u8], symbols: &[u8], size: usize) {
+    for i in 0..size {
+        put(file, i % 65536 + 4, byte(symbols, i));
+    }
+}
+
+// The file of a tree whose symbols stand in a list, in preorder.
+pub fn write_symbols(file: &mut [u8], symbols: &[u8], size: usize) -> usize
+    ensures { λ r. ⌜ r ≤ 131072 ⌝ }
+{
+    put(file, 0, 84);
+    put_pair(file, 2, size);
+    put_list(file, symbols, size);
+    seal(file, size % 32768 + 4)
+}
+
 // The first n bytes of a buffer, or none where it has fewer.
 pub fn front(buffer: &[u8], n: usize) -> &[u8] {
     if n <= buffer.len() {
