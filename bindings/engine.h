@@ -5,12 +5,13 @@
  * encodings in crates/engine/specs/Numbers.antt.
  *
  * Pointers. A pointer with a length points at so many bytes, or more; it is never null, also where the length is 0. A pointer to numbers
- * is aligned as its type is. What a function writes to (told, plan, tally, text) overlaps nothing else that it was given; what it only
+ * is aligned as its type is. What a function writes to (told, out, tally, text, a
+ * survey's plan) overlaps nothing else that it was given; what it only
  * reads may overlap. Nothing is kept after the call.
  *
- * What is written. `told` is always written, all three numbers: what the answer tells, or, of a refusal, its number in document 01's table
- * (1 to 14), the file (0 automaton, 1 tree, 2 neither), and the place that the table names; what an answer does not tell is 0. `plan`,
- * `tally` and `text` are changed only as said below, and no other memory is.
+ * What is written. `told` is always written, all three numbers: what the answer tells, or, of a refusal, its number (1 to 14
+ * of document 01's table, 15 and 16 of document 02), the file (0 automaton, 1 tree, 2 neither), and the place that the table names; what an answer does not tell is 0. `plan`,
+ * `out`, `tally` and `text` are changed only as said below, and no other memory is.
  *
  * Threads. Calls share nothing: there is no state between them, no allocation, no lock, no file and no signal. Any number of threads may
  * call at one time, each with memory of its own to be written to.
@@ -25,6 +26,7 @@
 
 #define ENGINE_JUDGE_STACK (80 * 1024)
 #define ENGINE_SURVEY_STACK (60 * 1024)
+#define ENGINE_WITNESS_STACK (16 * 1024)
 #define ENGINE_QUICK_STACK (52 * 1024)
 #define ENGINE_SINGLE_STACK (8 * 1024)
 #define ENGINE_COUNT_STACK (4 * 1024)
@@ -46,6 +48,14 @@ uint32_t engine_judge(const uint8_t *automaton, size_t automaton_length, const u
  * 0 found (height, rows), 1 open: over 64 classes of trees (height), 2 empty: no tree is accepted (height), 3 refused (number, file,
  * place). */
 uint32_t engine_survey(const uint8_t *file, size_t length, uint8_t *plan, size_t plan_length, size_t told[3]);
+
+/* Writes the tree that a plan builds, for an automaton, as a tree's file at the front of the output: a plan is what engine_survey left at the
+ * front of its buffer, three bytes for each of its rows, or any other of that form. A row that is used more than once is written each time.
+ * Later bytes stay; a call that is refused changes none.
+ * 0 written (length), 1 refused (number, file, place): after the automaton's refusals 15, no plan for it (the first bad row, or 0 where the
+ * length is wrong), 16, over 4,096 nodes (0), and 13, the output is too short (the length of the file). */
+uint32_t engine_witness(const uint8_t *file, size_t length, const uint8_t *plan, size_t plan_length, uint8_t *out, size_t out_length,
+                        size_t told[3]);
 
 /* The quick check of an automaton.
  * 0 clear: no tree is accepted, 1 unsure, 2 refused (number, file, place). */

@@ -133,6 +133,19 @@ static void call_survey(void)
     answer = engine_survey(input.walker, input.walker_length, plan, sizeof plan, told);
 }
 
+/* A comb of 65 rows, and the most nodes that 12 rows can make. */
+static void call_witness(void)
+{
+    static uint8_t out[LETTER];
+    uint8_t comb[195] = {31, 255, 255}, full[36] = {31, 255, 255};
+    for (uint8_t row = 1; row < 65; row++)
+        comb[3 * row + 1] = (uint8_t)(row - 1);
+    for (uint8_t row = 1; row < 12; row++)
+        full[3 * row + 1] = full[3 * row + 2] = (uint8_t)(row - 1);
+    answer = engine_witness(input.walker, input.walker_length, comb, sizeof comb, out, sizeof out, told);
+    answer |= engine_witness(input.walker, input.walker_length, full, sizeof full, out, sizeof out, told);
+}
+
 static void call_quick(void)
 {
     answer = engine_quick(input.walker, input.walker_length, told);
@@ -169,10 +182,11 @@ static const struct {
     void (*call)(void);
     size_t limit;
 } functions[] = {
-    {"engine_judge", call_judge, ENGINE_JUDGE_STACK}, {"engine_survey", call_survey, ENGINE_SURVEY_STACK},
-    {"engine_quick", call_quick, ENGINE_QUICK_STACK}, {"engine_single", call_single, ENGINE_SINGLE_STACK},
-    {"engine_count", call_count, ENGINE_COUNT_STACK}, {"engine_percent", call_percent, ENGINE_PERCENT_STACK},
-    {"engine_tally", call_tally, ENGINE_TALLY_STACK}, {"engine_report", call_report, ENGINE_REPORT_STACK},
+    {"engine_judge", call_judge, ENGINE_JUDGE_STACK},       {"engine_survey", call_survey, ENGINE_SURVEY_STACK},
+    {"engine_witness", call_witness, ENGINE_WITNESS_STACK}, {"engine_quick", call_quick, ENGINE_QUICK_STACK},
+    {"engine_single", call_single, ENGINE_SINGLE_STACK},    {"engine_count", call_count, ENGINE_COUNT_STACK},
+    {"engine_percent", call_percent, ENGINE_PERCENT_STACK}, {"engine_tally", call_tally, ENGINE_TALLY_STACK},
+    {"engine_report", call_report, ENGINE_REPORT_STACK},
 };
 
 /* ---- measuring */
@@ -218,7 +232,8 @@ static size_t most_of(void (*call)(void))
     return most;
 }
 
-/* That the inputs are what they should be: refused, not accepted and accepted; nine blocks; a survey that ends with Open 64. */
+/* That the inputs are what they should be: refused, not accepted and accepted; nine blocks; a survey that ends with Open 64; two plans that
+ * are written. */
 static int inputs_right(void)
 {
     for (int number = 0; number < INPUTS; number++) {
@@ -229,6 +244,9 @@ static int inputs_right(void)
             return 0;
         call_survey();
         if (walker == 1 && (answer != 1 || told[0] != 64))
+            return 0;
+        call_witness();
+        if (walker != 0 && (answer != 0 || told[0] != LETTER))
             return 0;
     }
     return 1;

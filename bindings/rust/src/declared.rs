@@ -18,6 +18,15 @@ extern "C" {
         told: *mut Told,
     ) -> u32;
     fn engine_survey(file: *const u8, length: usize, plan: *mut u8, plan_length: usize, told: *mut Told) -> u32;
+    fn engine_witness(
+        file: *const u8,
+        length: usize,
+        plan: *const u8,
+        plan_length: usize,
+        out: *mut u8,
+        out_length: usize,
+        told: *mut Told,
+    ) -> u32;
     fn engine_quick(file: *const u8, length: usize, told: *mut Told) -> u32;
     fn engine_single(file: *const u8, length: usize, told: *mut Told) -> u32;
     fn engine_count(tally: *mut [u32; 3], outcome: u32, told: *mut Told) -> u32;
@@ -54,6 +63,13 @@ pub fn judge(automaton: &[u8], tree: &[u8]) -> (u32, Told) {
 pub fn survey(file: &[u8], plan: &mut [u8]) -> (u32, Told) {
     // SAFETY: both pointers are of slices, with their lengths; `plan` is lent to be written to, and `told` is the call's own.
     telling(|told| unsafe { engine_survey(file.as_ptr(), file.len(), plan.as_mut_ptr(), plan.len(), told) })
+}
+
+pub fn witness(file: &[u8], plan: &[u8], out: &mut [u8]) -> (u32, Told) {
+    // SAFETY: the pointers are of slices, with their lengths; `out` is lent to be written to, and `told` is the call's own.
+    telling(|told| unsafe {
+        engine_witness(file.as_ptr(), file.len(), plan.as_ptr(), plan.len(), out.as_mut_ptr(), out.len(), told)
+    })
 }
 
 pub fn quick(file: &[u8]) -> (u32, Told) {

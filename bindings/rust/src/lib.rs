@@ -1,9 +1,13 @@
-//! The engine for tree-walking automata, from its static library: judging, the survey, the quick check, single, the tally, and the report.
+//! The engine for tree-walking automata, from its static library: judging, the survey and its plan's tree, the quick check, single, the
+//! tally, and the report.
 //! Files are given as their bytes; every input is answered, a bad file by its refusal. Calls share nothing, and may be made by any number
 //! of threads; `bindings/engine.h` says how much stack each takes.
 mod declared;
 
 use declared::Told;
+
+/// The most bytes that a tree's file has.
+pub const TREE: usize = 4608;
 
 /// The most bytes that a plan takes, and the fewest that the survey accepts as a buffer.
 pub const PLAN: usize = 195;
@@ -16,7 +20,7 @@ pub enum File {
     Neither,
 }
 
-/// Why an input was refused: the number of a line of document 01's table, the file, and the place that the line names.
+/// Why an input was refused: the number of a line of document 01's table or of document 02's requests, the file, and the place that the line names.
 #[derive(Clone, Copy, Debug, PartialEq, Eq)]
 pub struct Refusal {
     pub number: u32,
@@ -100,6 +104,15 @@ pub fn survey(file: &[u8], plan: &mut [u8]) -> Result<Survey, Refusal> {
         (0, [height, rows, _]) => Ok(Survey::Found { height, rows }),
         (1, [height, ..]) => Ok(Survey::Open { height }),
         (2, [height, ..]) => Ok(Survey::Empty { height }),
+        (_, told) => Err(Refusal::of(told)),
+    }
+}
+
+/// The tree that a plan builds, for an automaton's file, as a tree's file at the front of the output; its length. Later bytes stay, and a call
+/// that is refused changes none. No output of `TREE` bytes is too short.
+pub fn witness(file: &[u8], plan: &[u8], out: &mut [u8]) -> Result<usize, Refusal> {
+    match declared::witness(file, plan, out) {
+        (0, [length, ..]) => Ok(length),
         (_, told) => Err(Refusal::of(told)),
     }
 }

@@ -4,7 +4,7 @@ use bench::{
     blocks, tree,
 };
 use engine::{
-    count, judge, percent, quick, single, survey, File, Outcome, Quick, Refusal, Survey, Tally, Verdict, PLAN,
+    count, judge, percent, quick, single, survey, witness, File, Outcome, Quick, Refusal, Survey, Tally, Verdict, PLAN,
 };
 
 const RULES: [[u8; 5]; 4] = [[2, 0, 0, 3, 0], [2, 0, 2, 3, 0], [1, 0, 2, 1, 1], [2, 1, 2, 1, 1]];
@@ -45,6 +45,7 @@ fn automaton_refused(automaton: &[u8], number: u32, place: usize) {
     assert_eq!(survey(automaton, &mut [0; PLAN]), refused(number, File::Automaton, place));
     assert_eq!(quick(automaton), refused(number, File::Automaton, place));
     assert_eq!(single(automaton), refused(number, File::Automaton, place));
+    assert_eq!(witness(automaton, &[], &mut []), refused(number, File::Automaton, place));
 }
 
 #[track_caller]

@@ -1,6 +1,6 @@
 -- Answers as numbers, for programs in other languages: of each the number that is answered, and the three numbers told with it.
 -- Interface: `refusalTold`, `answerNumber`, `answerTold`, `surveyNumber`, `surveyTold`, `quickNumber`, `quickTold`, `singleNumber`, `singleTold`,
--- `outcomeNumbered`, `tallyOf`, `tallyNumbers`, `checkNumber`, `checkTold`, `judgedTally`.
+-- `writtenNumber`, `writtenTold`, `outcomeNumbered`, `tallyOf`, `tallyNumbers`, `checkNumber`, `checkTold`, `judgedTally`.
 use Prim.Native.Nat.{ℕ, zero, suc}
 use mathlib.Core.List.{List, [], _∷_}
 use lib.ListN.{getD}
@@ -12,6 +12,7 @@ use Rattle.emptiness.specs.declared.Survey.{Survey}
 use Rattle.emptiness.specs.declared.Quick.{Quick}
 use Rattle.tally.specs.declared.Outcome.{Outcome}
 use Rattle.tally.specs.declared.Tally.{Tally}
+use Rattle.witness.specs.declared.Written.{Written}
 
 -- nothing is told
 abbrev pub none : List ℕ
@@ -66,6 +67,15 @@ abbrev pub singleTold : Singleness → List ℕ
 singleTold Singleness.Single = none
 singleTold Singleness.Multiple = none
 singleTold (Singleness.Refused r) = refusalTold r
+
+-- a plan's tree, written: the length of the file
+abbrev pub writtenNumber : Written → ℕ
+writtenNumber (Written.Bytes n) = 0
+writtenNumber (Written.Refused r) = 1
+
+abbrev pub writtenTold : Written → List ℕ
+writtenTold (Written.Bytes n) = n ∷ 0 ∷ 0 ∷ []
+writtenTold (Written.Refused r) = refusalTold r
 
 -- counting: an outcome, and a tally, by their numbers; whether the outcome was counted
 unfoldable pub outcomeNumbered : ℕ → Outcome

@@ -18,6 +18,8 @@ ghost use Rattle.tally.specs.Tally.{countedUp, percentOf};
 ghost use Rattle.batch.specs.Batch.{talliedOf};
 ghost use Rattle.text.specs.Appended.{Appended};
 ghost use Rattle.report_text.specs.Report.{reportOf};
+ghost use Rattle.witness.specs.Written.{outcome, written};
+ghost use Rattle.witness.specs.Promise.{Promise};
 
 // Whether an automaton's file accepts a tree's file.
 pub fn judge(automaton: &[u8], tree: &[u8]) -> Answer
@@ -33,6 +35,14 @@ pub fn survey(file: &[u8], plan: &mut [u8]) -> emptiness::Survey
     ensures right { λ r. ⌜ Demand3 (now (file .entry)) (now (plan .entry)) (answered r (now (plan .exit))) ⌝ }
 {
     emptiness::file::survey(file, plan)
+}
+
+// The tree that a plan builds, as a tree's file at the front of the output: the plan that a survey of the automaton's file found, or any other.
+pub fn witness(file: &[u8], plan: &[u8], out: &mut [u8]) -> witness::Written
+    ensures equals { λ r. ⌜ outcome r (now (out .exit)) ≡ written (now (file .entry)) (now (plan .entry)) (now (out .entry)) ⌝ }
+    ensures right { λ r. ⌜ Promise (now (file .entry)) (now (plan .entry)) (now (out .entry)) (outcome r (now (out .exit))) ⌝ }
+{
+    witness::file::write(file, plan, out)
 }
 
 // The quick check of an automaton's file.

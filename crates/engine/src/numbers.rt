@@ -9,6 +9,7 @@ use refusal::Refusal;
 use tally::Outcome;
 use tally::Tally;
 use transitions::single::Singleness;
+use witness::Written;
 ghost use mathlib.Core.Path.{_≡_};
 ghost use Rattle.membership.specs.Judged.{judged};
 ghost use Rattle.membership.specs.Demand2.{Demand2};
@@ -20,7 +21,9 @@ ghost use Rattle.tally.specs.Tally.{countedUp, percentOf};
 ghost use Rattle.batch.specs.Batch.{talliedOf};
 ghost use Rattle.text.specs.Appended.{Appended};
 ghost use Rattle.report_text.specs.Report.{reportOf};
-ghost use Rattle.engine.specs.Numbers.{refusalTold, answerNumber, answerTold, surveyNumber, surveyTold, quickNumber, quickTold, singleNumber, singleTold, outcomeNumbered, tallyOf, tallyNumbers, checkNumber, checkTold, judgedTally};
+ghost use Rattle.witness.specs.Written.{outcome, written};
+ghost use Rattle.witness.specs.Promise.{Promise};
+ghost use Rattle.engine.specs.Numbers.{refusalTold, answerNumber, answerTold, surveyNumber, surveyTold, quickNumber, quickTold, singleNumber, singleTold, writtenNumber, writtenTold, outcomeNumbered, tallyOf, tallyNumbers, checkNumber, checkTold, judgedTally};
 
 fn put_refusal(refusal: Refusal, told: &mut [usize; 3])
     ensures { λ _. ⌜ now (told .exit) ≡ refusalTold refusal ⌝ }
@@ -101,6 +104,22 @@ fn put_single(answer: Singleness, told: &mut [usize; 3]) -> u32
     }
 }
 
+// 0 written (length), 1 refused.
+fn put_written(answer: Written, told: &mut [usize; 3]) -> u32
+    ensures { λ r. ⌜ (r ≡ writtenNumber answer) × (now (told .exit) ≡ writtenTold answer) ⌝ }
+{
+    match answer {
+        Written::Bytes(length) => {
+            *told = [length, 0, 0];
+            0
+        }
+        Written::Refused(refusal) => {
+            put_refusal(refusal, told);
+            1
+        }
+    }
+}
+
 // 0 counted, 1 refused.
 fn put_check(check: Check, told: &mut [usize; 3]) -> u32
     ensures { λ r. ⌜ (r ≡ checkNumber check) × (now (told .exit) ≡ checkTold check) ⌝ }
@@ -153,6 +172,23 @@ pub extern "C" fn engine_survey(file: &[u8], plan: &mut [u8], told: &mut [usize;
         × Demand3 (now (file .entry)) (now (plan .entry)) (answered a (now (plan .exit)))) ⌝ }
 {
     put_survey(crate::survey(file, plan), told)
+}
+
+// The tree that a plan builds, as a tree's file at the front of the output.
+#[no_mangle]
+pub extern "C" fn engine_witness(
+    file: &[u8],
+    plan: &[u8],
+    out: &mut [u8],
+    told: &mut [usize; 3],
+) -> u32
+    ensures equals { λ r. ⌜ (r ≡ writtenNumber (written (now (file .entry)) (now (plan .entry)) (now (out .entry)) .answer))
+        × (now (told .exit) ≡ writtenTold (written (now (file .entry)) (now (plan .entry)) (now (out .entry)) .answer))
+        × (now (out .exit) ≡ written (now (file .entry)) (now (plan .entry)) (now (out .entry)) .out) ⌝ }
+    ensures right { λ r. ⌜ ((a : Written) × (r ≡ writtenNumber a) × (now (told .exit) ≡ writtenTold a)
+        × Promise (now (file .entry)) (now (plan .entry)) (now (out .entry)) (outcome a (now (out .exit)))) ⌝ }
+{
+    put_written(crate::witness(file, plan, out), told)
 }
 
 // The quick check of an automaton's file.

@@ -1,0 +1,24 @@
+-- `engine::numbers::engine_witness` meets its contract: it is `witness`, with the answer as numbers; that answer meets the promise.
+-- Assumes nothing.
+use borrow.Author.Needs.{needs}
+use mathlib.Core.Path.{ap, _∙_}
+use Rattle.witness.specs.Written.{Outcome}
+use Rattle.engine.specs.Numbers.{writtenNumber, writtenTold}
+use Rattle.engine.proofs.numbers.engine_witness.Statement.{statement}
+use Rattle.engine.proofs.numbers.engine_witness.Tie as tie
+
+pub engine-witness-spec : {M : Type 1} → statement M
+engine-witness-spec = tie.close (tie.spec
+    (λ c κs. search needs)
+    (λ c κs. search needs)
+    (λ c. search needs)
+    (λ c.
+    let answer = c .before .before .before .before .witness in
+    let e = answer .ensures .0 in (
+      (
+        c .put-written .ensures .0 ∙ ap (λ (o : Outcome). writtenNumber (o .answer)) e,
+        c .put-written .ensures .1 ∙ ap (λ (o : Outcome). writtenTold (o .answer)) e,
+        ap (λ (o : Outcome). o .out) e,
+      ),
+      (answer .result, c .put-written .ensures .0, c .put-written .ensures .1, answer .ensures .1),
+    )))
