@@ -2,7 +2,7 @@
  *
  * Automata and trees are given as the bytes of their files (document 01's walker and letter files; docs/REFUSALS.md has both layouts and
  * the refusals). Every function answers every input: a bad file gets its refusal. The contracts are in crates/engine/src/numbers.rt, the
- * encodings in crates/engine/specs/Numbers.antt.
+ * encodings in crates/numbering/specs/Numbers.antt.
  *
  * Pointers. A pointer with a length points at so many bytes, or more; it is never null, also where the length is 0. A pointer to numbers
  * is aligned as its type is. What a function writes to (told, out, tally, text, a

@@ -4,11 +4,7 @@
 use emptiness::Quick;
 use emptiness::Survey;
 use membership::Answer;
-use refusal::Check;
-use refusal::Refusal;
-use tally::Outcome;
 use tally::Tally;
-use transitions::single::Singleness;
 use witness::Written;
 ghost use mathlib.Core.Path.{_≡_};
 ghost use Rattle.membership.specs.Judged.{judged};
@@ -23,133 +19,7 @@ ghost use Rattle.text.specs.Appended.{Appended};
 ghost use Rattle.report_text.specs.Report.{reportOf};
 ghost use Rattle.witness.specs.Written.{outcome, written};
 ghost use Rattle.witness.specs.Promise.{Promise};
-ghost use Rattle.engine.specs.Numbers.{refusalTold, answerNumber, answerTold, surveyNumber, surveyTold, quickNumber, quickTold, singleNumber, singleTold, writtenNumber, writtenTold, outcomeNumbered, tallyOf, tallyNumbers, checkNumber, checkTold, judgedTally};
-
-fn put_refusal(refusal: Refusal, told: &mut [usize; 3])
-    ensures { λ _. ⌜ now (told .exit) ≡ refusalTold refusal ⌝ }
-{
-    *told = [
-        refusal.number as usize,
-        refusal.file as usize,
-        refusal.place,
-    ];
-}
-
-// 0 accepted, 1 other, 2 refused.
-fn put_answer(answer: Answer, told: &mut [usize; 3]) -> u32
-    ensures { λ r. ⌜ (r ≡ answerNumber answer) × (now (told .exit) ≡ answerTold answer) ⌝ }
-{
-    *told = [0, 0, 0];
-    match answer {
-        Answer::Accepted => 0,
-        Answer::Other => 1,
-        Answer::Refused(refusal) => {
-            put_refusal(refusal, told);
-            2
-        }
-    }
-}
-
-// 0 found (height, rows), 1 open (height), 2 empty (height), 3 refused.
-fn put_survey(answer: Survey, told: &mut [usize; 3]) -> u32
-    ensures { λ r. ⌜ (r ≡ surveyNumber answer) × (now (told .exit) ≡ surveyTold answer) ⌝ }
-{
-    match answer {
-        Survey::Found { height, rows } => {
-            *told = [height, rows, 0];
-            0
-        }
-        Survey::Open(height) => {
-            *told = [height, 0, 0];
-            1
-        }
-        Survey::Empty(height) => {
-            *told = [height, 0, 0];
-            2
-        }
-        Survey::Refused(refusal) => {
-            put_refusal(refusal, told);
-            3
-        }
-    }
-}
-
-// 0 clear, 1 unsure, 2 refused.
-fn put_quick(answer: Quick, told: &mut [usize; 3]) -> u32
-    ensures { λ r. ⌜ (r ≡ quickNumber answer) × (now (told .exit) ≡ quickTold answer) ⌝ }
-{
-    *told = [0, 0, 0];
-    match answer {
-        Quick::Clear => 0,
-        Quick::Unsure => 1,
-        Quick::Refused(refusal) => {
-            put_refusal(refusal, told);
-            2
-        }
-    }
-}
-
-// 0 single, 1 not single, 2 refused.
-fn put_single(answer: Singleness, told: &mut [usize; 3]) -> u32
-    ensures { λ r. ⌜ (r ≡ singleNumber answer) × (now (told .exit) ≡ singleTold answer) ⌝ }
-{
-    *told = [0, 0, 0];
-    match answer {
-        Singleness::Single => 0,
-        Singleness::Multiple => 1,
-        Singleness::Refused(refusal) => {
-            put_refusal(refusal, told);
-            2
-        }
-    }
-}
-
-// 0 written (length), 1 refused.
-fn put_written(answer: Written, told: &mut [usize; 3]) -> u32
-    ensures { λ r. ⌜ (r ≡ writtenNumber answer) × (now (told .exit) ≡ writtenTold answer) ⌝ }
-{
-    match answer {
-        Written::Bytes(length) => {
-            *told = [length, 0, 0];
-            0
-        }
-        Written::Refused(refusal) => {
-            put_refusal(refusal, told);
-            1
-        }
-    }
-}
-
-// 0 counted, 1 refused.
-fn put_check(check: Check, told: &mut [usize; 3]) -> u32
-    ensures { λ r. ⌜ (r ≡ checkNumber check) × (now (told .exit) ≡ checkTold check) ⌝ }
-{
-    *told = [0, 0, 0];
-    match check {
-        Check::Passed => 0,
-        Check::Refused(refusal) => {
-            put_refusal(refusal, told);
-            1
-        }
-    }
-}
-
-// 0 accepted, 1 other, any other number refused.
-fn outcome_of(number: u32) -> Outcome
-    ensures { λ r. ⌜ r ≡ outcomeNumbered number ⌝ }
-{
-    match number {
-        0 => Outcome::Accepted,
-        1 => Outcome::Other,
-        _ => Outcome::Refused,
-    }
-}
-
-fn put_tally(tally: Tally, out: &mut [u32; 3])
-    ensures { λ _. ⌜ now (out .exit) ≡ tallyNumbers tally ⌝ }
-{
-    *out = [tally.accepted, tally.other, tally.refused];
-}
+ghost use Rattle.numbering.specs.Numbers.{answerNumber, answerTold, surveyNumber, surveyTold, quickNumber, quickTold, singleNumber, singleTold, writtenNumber, writtenTold, outcomeNumbered, tallyOf, tallyNumbers, checkNumber, checkTold, judgedTally};
 
 // Whether an automaton's file accepts a tree's file.
 #[no_mangle]
@@ -159,7 +29,7 @@ pub extern "C" fn engine_judge(automaton: &[u8], tree: &[u8], told: &mut [usize;
     ensures right { λ r. ⌜ ((a : Answer) × (r ≡ answerNumber a) × (now (told .exit) ≡ answerTold a)
         × Demand2 (now (automaton .entry)) (now (tree .entry)) a) ⌝ }
 {
-    put_answer(crate::judge(automaton, tree), told)
+    numbering::put_answer(crate::judge(automaton, tree), told)
 }
 
 // Looks for a tree that an automaton's file accepts; the plan goes to the front of the buffer.
@@ -171,7 +41,7 @@ pub extern "C" fn engine_survey(file: &[u8], plan: &mut [u8], told: &mut [usize;
     ensures right { λ r. ⌜ ((a : Survey) × (r ≡ surveyNumber a) × (now (told .exit) ≡ surveyTold a)
         × Demand3 (now (file .entry)) (now (plan .entry)) (answered a (now (plan .exit)))) ⌝ }
 {
-    put_survey(crate::survey(file, plan), told)
+    numbering::put_survey(crate::survey(file, plan), told)
 }
 
 // The tree that a plan builds, as a tree's file at the front of the output.
@@ -188,7 +58,7 @@ pub extern "C" fn engine_witness(
     ensures right { λ r. ⌜ ((a : Written) × (r ≡ writtenNumber a) × (now (told .exit) ≡ writtenTold a)
         × Promise (now (file .entry)) (now (plan .entry)) (now (out .entry)) (outcome a (now (out .exit)))) ⌝ }
 {
-    put_written(crate::witness(file, plan, out), told)
+    numbering::put_written(crate::witness(file, plan, out), told)
 }
 
 // The quick check of an automaton's file.
@@ -197,7 +67,7 @@ pub extern "C" fn engine_quick(file: &[u8], told: &mut [usize; 3]) -> u32
     ensures equals { λ r. ⌜ (r ≡ quickNumber (checked (now (file .entry)))) × (now (told .exit) ≡ quickTold (checked (now (file .entry)))) ⌝ }
     ensures right { λ r. ⌜ ((a : Quick) × (r ≡ quickNumber a) × (now (told .exit) ≡ quickTold a) × Demand3Quick (now (file .entry)) a) ⌝ }
 {
-    put_quick(crate::quick(file), told)
+    numbering::put_quick(crate::quick(file), told)
 }
 
 // Whether the automaton of a file is single.
@@ -205,7 +75,7 @@ pub extern "C" fn engine_quick(file: &[u8], told: &mut [usize; 3]) -> u32
 pub extern "C" fn engine_single(file: &[u8], told: &mut [usize; 3]) -> u32
     ensures { λ r. ⌜ (r ≡ singleNumber (singleOf (now (file .entry)))) × (now (told .exit) ≡ singleTold (singleOf (now (file .entry)))) ⌝ }
 {
-    put_single(crate::single(file), told)
+    numbering::put_single(crate::single(file), told)
 }
 
 // One outcome more on a tally of three numbers: accepted, other, refused.
@@ -220,11 +90,11 @@ pub extern "C" fn engine_count(tally: &mut [u32; 3], outcome: u32, told: &mut [u
         other: tally[1],
         refused: tally[2],
     };
-    let counted = tally::count_held(before, outcome_of(outcome));
+    let counted = tally::count_held(before, numbering::outcome_of(outcome));
     let after = counted.tally;
     let check = counted.check;
-    put_tally(after, tally);
-    put_check(check, told)
+    numbering::put_tally(after, tally);
+    numbering::put_check(check, told)
 }
 
 // The percent of accepted trees among those judged.
@@ -259,8 +129,8 @@ pub extern "C" fn engine_tally(
     let tallied = crate::tally(automaton, trees, before);
     let total = tallied.tally;
     let check = tallied.check;
-    put_tally(total, tally);
-    put_check(check, told)
+    numbering::put_tally(total, tally);
+    numbering::put_check(check, told)
 }
 
 // The report on an automaton's file and trees' files end to end; its length.

@@ -4,7 +4,7 @@ use borrow.Author.Needs.{needs}
 use mathlib.Core.Path.{ap, _∙_}
 use Rattle.tally.specs.Tally.{countedUp}
 use Rattle.tally.specs.declared.Tallied.{Tallied}
-use Rattle.engine.specs.Numbers.{tallyOf, tallyNumbers, checkNumber, checkTold}
+use Rattle.numbering.specs.Numbers.{tallyOf, tallyNumbers, checkNumber, checkTold}
 use Rattle.engine.proofs.numbers.engine_count.Statement.{statement}
 use Rattle.engine.proofs.numbers.engine_count.Tie as tie
 

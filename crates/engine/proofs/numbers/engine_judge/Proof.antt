@@ -2,7 +2,7 @@
 -- Assumes nothing.
 use borrow.Author.Needs.{needs}
 use mathlib.Core.Path.{ap, _∙_}
-use Rattle.engine.specs.Numbers.{answerNumber, answerTold}
+use Rattle.numbering.specs.Numbers.{answerNumber, answerTold}
 use Rattle.engine.proofs.numbers.engine_judge.Statement.{statement}
 use Rattle.engine.proofs.numbers.engine_judge.Tie as tie
 

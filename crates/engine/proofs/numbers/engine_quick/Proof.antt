@@ -2,7 +2,7 @@
 -- Assumes nothing.
 use borrow.Author.Needs.{needs}
 use mathlib.Core.Path.{ap, _∙_}
-use Rattle.engine.specs.Numbers.{quickNumber, quickTold}
+use Rattle.numbering.specs.Numbers.{quickNumber, quickTold}
 use Rattle.engine.proofs.numbers.engine_quick.Statement.{statement}
 use Rattle.engine.proofs.numbers.engine_quick.Tie as tie
 

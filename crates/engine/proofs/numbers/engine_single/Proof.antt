@@ -2,7 +2,7 @@
 -- Assumes nothing.
 use borrow.Author.Needs.{needs}
 use mathlib.Core.Path.{ap, _∙_}
-use Rattle.engine.specs.Numbers.{singleNumber, singleTold}
+use Rattle.numbering.specs.Numbers.{singleNumber, singleTold}
 use Rattle.engine.proofs.numbers.engine_single.Statement.{statement}
 use Rattle.engine.proofs.numbers.engine_single.Tie as tie
 

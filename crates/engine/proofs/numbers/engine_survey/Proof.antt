@@ -3,7 +3,7 @@
 use borrow.Author.Needs.{needs}
 use mathlib.Core.Path.{ap, _∙_}
 use Rattle.emptiness.specs.Surveyed.{Answered}
-use Rattle.engine.specs.Numbers.{surveyNumber, surveyTold}
+use Rattle.numbering.specs.Numbers.{surveyNumber, surveyTold}
 use Rattle.engine.proofs.numbers.engine_survey.Statement.{statement}
 use Rattle.engine.proofs.numbers.engine_survey.Tie as tie
 

@@ -3,7 +3,7 @@
 use borrow.Author.Needs.{needs}
 use mathlib.Core.Path.{ap, _∙_}
 use Rattle.tally.specs.declared.Tallied.{Tallied}
-use Rattle.engine.specs.Numbers.{tallyNumbers, checkNumber, checkTold}
+use Rattle.numbering.specs.Numbers.{tallyNumbers, checkNumber, checkTold}
 use Rattle.engine.proofs.numbers.engine_tally.Statement.{statement}
 use Rattle.engine.proofs.numbers.engine_tally.Tie as tie
 

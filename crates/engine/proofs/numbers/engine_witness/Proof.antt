@@ -3,7 +3,7 @@
 use borrow.Author.Needs.{needs}
 use mathlib.Core.Path.{ap, _∙_}
 use Rattle.witness.specs.Written.{Outcome}
-use Rattle.engine.specs.Numbers.{writtenNumber, writtenTold}
+use Rattle.numbering.specs.Numbers.{writtenNumber, writtenTold}
 use Rattle.engine.proofs.numbers.engine_witness.Statement.{statement}
 use Rattle.engine.proofs.numbers.engine_witness.Tie as tie
 

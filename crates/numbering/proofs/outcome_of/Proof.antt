@@ -1,11 +1,11 @@
--- `engine::numbers::outcome_of` meets its contract: each arm has its number, and a number that is neither is two more than some number.
+-- `numbering::outcome_of` meets its contract: each arm has its number, and a number that is neither is two more than some number.
 -- Assumes nothing.
 use Prim.Native.Nat.{suc, _-_}
 use mathlib.Core.Path.{_≡_}
 use native.Mathlib.Omega.{arith}
-use Rattle.engine.specs.Numbers.{outcomeNumbered}
-use Rattle.engine.proofs.numbers.outcome_of.Statement.{statement}
-use Rattle.engine.proofs.numbers.outcome_of.Tie as tie
+use Rattle.numbering.specs.Numbers.{outcomeNumbered}
+use Rattle.numbering.proofs.outcome_of.Statement.{statement}
+use Rattle.numbering.proofs.outcome_of.Tie as tie
 
 pub outcome-of-spec : {M : Type 1} → statement M
 unfolding outcomeNumbered

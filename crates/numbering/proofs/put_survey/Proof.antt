@@ -1,9 +1,9 @@
--- `engine::numbers::put_survey` meets its contract: the definitions' cases.
+-- `numbering::put_survey` meets its contract: the definitions' cases.
 -- Assumes nothing.
 use borrow.Author.Needs.{needs}
 use mathlib.Core.Path.{refl}
-use Rattle.engine.proofs.numbers.put_survey.Statement.{statement}
-use Rattle.engine.proofs.numbers.put_survey.Tie as tie
+use Rattle.numbering.proofs.put_survey.Statement.{statement}
+use Rattle.numbering.proofs.put_survey.Tie as tie
 
 pub put-survey-spec : {M : Type 1} → statement M
 put-survey-spec =

@@ -1,9 +1,9 @@
--- `engine::numbers::put_written` meets its contract: the definitions' cases.
+-- `numbering::put_written` meets its contract: the definitions' cases.
 -- Assumes nothing.
 use borrow.Author.Needs.{needs}
 use mathlib.Core.Path.{refl}
-use Rattle.engine.proofs.numbers.put_written.Statement.{statement}
-use Rattle.engine.proofs.numbers.put_written.Tie as tie
+use Rattle.numbering.proofs.put_written.Statement.{statement}
+use Rattle.numbering.proofs.put_written.Tie as tie
 
 pub put-written-spec : {M : Type 1} → statement M
 put-written-spec =

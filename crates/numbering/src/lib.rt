@@ -1,0 +1,139 @@
+// Answers as numbers, for programs in other languages: each function answers a number, and leaves three more in `told`: those of the answer, or
+// of a refusal its number, file and place; what is missing is 0.
+use emptiness::Quick;
+use emptiness::Survey;
+use membership::Answer;
+use refusal::Check;
+use refusal::Refusal;
+use tally::Outcome;
+use tally::Tally;
+use transitions::single::Singleness;
+use witness::Written;
+ghost use mathlib.Core.Path.{_≡_};
+ghost use Rattle.numbering.specs.Numbers.{refusalTold, answerNumber, answerTold, surveyNumber, surveyTold, quickNumber, quickTold, singleNumber, singleTold, writtenNumber, writtenTold, outcomeNumbered, tallyNumbers, checkNumber, checkTold};
+
+fn put_refusal(refusal: Refusal, told: &mut [usize; 3])
+    ensures { λ _. ⌜ now (told .exit) ≡ refusalTold refusal ⌝ }
+{
+    *told = [
+        refusal.number as usize,
+        refusal.file as usize,
+        refusal.place,
+    ];
+}
+
+// 0 accepted, 1 other, 2 refused.
+pub fn put_answer(answer: Answer, told: &mut [usize; 3]) -> u32
+    ensures { λ r. ⌜ (r ≡ answerNumber answer) × (now (told .exit) ≡ answerTold answer) ⌝ }
+{
+    *told = [0, 0, 0];
+    match answer {
+        Answer::Accepted => 0,
+        Answer::Other => 1,
+        Answer::Refused(refusal) => {
+            put_refusal(refusal, told);
+            2
+        }
+    }
+}
+
+// 0 found (height, rows), 1 open (height), 2 empty (height), 3 refused.
+pub fn put_survey(answer: Survey, told: &mut [usize; 3]) -> u32
+    ensures { λ r. ⌜ (r ≡ surveyNumber answer) × (now (told .exit) ≡ surveyTold answer) ⌝ }
+{
+    match answer {
+        Survey::Found { height, rows } => {
+            *told = [height, rows, 0];
+            0
+        }
+        Survey::Open(height) => {
+            *told = [height, 0, 0];
+            1
+        }
+        Survey::Empty(height) => {
+            *told = [height, 0, 0];
+            2
+        }
+        Survey::Refused(refusal) => {
+            put_refusal(refusal, told);
+            3
+        }
+    }
+}
+
+// 0 clear, 1 unsure, 2 refused.
+pub fn put_quick(answer: Quick, told: &mut [usize; 3]) -> u32
+    ensures { λ r. ⌜ (r ≡ quickNumber answer) × (now (told .exit) ≡ quickTold answer) ⌝ }
+{
+    *told = [0, 0, 0];
+    match answer {
+        Quick::Clear => 0,
+        Quick::Unsure => 1,
+        Quick::Refused(refusal) => {
+            put_refusal(refusal, told);
+            2
+        }
+    }
+}
+
+// 0 single, 1 not single, 2 refused.
+pub fn put_single(answer: Singleness, told: &mut [usize; 3]) -> u32
+    ensures { λ r. ⌜ (r ≡ singleNumber answer) × (now (told .exit) ≡ singleTold answer) ⌝ }
+{
+    *told = [0, 0, 0];
+    match answer {
+        Singleness::Single => 0,
+        Singleness::Multiple => 1,
+        Singleness::Refused(refusal) => {
+            put_refusal(refusal, told);
+            2
+        }
+    }
+}
+
+// 0 written (length), 1 refused.
+pub fn put_written(answer: Written, told: &mut [usize; 3]) -> u32
+    ensures { λ r. ⌜ (r ≡ writtenNumber answer) × (now (told .exit) ≡ writtenTold answer) ⌝ }
+{
+    match answer {
+        Written::Bytes(length) => {
+            *told = [length, 0, 0];
+            0
+        }
+        Written::Refused(refusal) => {
+            put_refusal(refusal, told);
+            1
+        }
+    }
+}
+
+// 0 counted, 1 refused.
+pub fn put_check(check: Check, told: &mut [usize; 3]) -> u32
+    ensures { λ r. ⌜ (r ≡ checkNumber check) × (now (told .exit) ≡ checkTold check) ⌝ }
+{
+    *told = [0, 0, 0];
+    match check {
+        Check::Passed => 0,
+        Check::Refused(refusal) => {
+            put_refusal(refusal, told);
+            1
+        }
+    }
+}
+
+// 0 accepted, 1 other, any other number refused.
+pub fn outcome_of(number: u32) -> Outcome
+    ensures { λ r. ⌜ r ≡ outcomeNumbered number ⌝ }
+{
+    match number {
+        0 => Outcome::Accepted,
+        1 => Outcome::Other,
+        _ => Outcome::Refused,
+    }
+}
+
+pub fn put_tally(tally: Tally, out: &mut [u32; 3])
+    ensures { λ _. ⌜ now (out .exit) ≡ tallyNumbers tally ⌝ }
+{
+    *out = [tally.accepted, tally.other, tally.refused];
+}
