@@ -217,6 +217,23 @@ class Doors(unittest.TestCase):
                 ([0, 255, 255, 2, 1, 0], 'not both earlier'), ([2, 255, 255], 'row 0: a leaf symbol'), ([0, 0, 0], 'row 0: a leaf symbol'), ([0, 255, 255, 2, 0, 255], 'not both earlier')]:
             self.told(reason, *plan(*rows))
 
+    def test_trees_of_letters(self):
+        trees = lambda walker, file: ['trees', walker, self.path('file', file)]
+        named = self.path('text', text())
+        numbered = self.path('walker', self.made('walker', named))
+        list_of = 'then(text, then(annex, text))\ntext\n' + full(505) + '\n'
+        file = self.letters(list_of)
+        self.assertEqual(self.run_twa(*trees(named, file)), (0, list_of.encode(), ''))
+        self.assertEqual(self.run_twa(*trees(numbered, file))[1].split(b'\n')[:2], [b'2(0, 2(1, 0))', b'0'])
+        letter = lambda *symbols: blocks(bytes([84, 0, *len(symbols).to_bytes(2, 'little'), *symbols]))
+        for nodes, reason in [
+                ([3], 'refused=10 place=0'), ([2, 0, 9, 0], 'refused=10 place=2'), ([0, 0], 'refused=11 place=1'), ([2, 0], 'refused=11 place=2'),
+                ([2] * 65 + [0] * 66, 'refused=12 place=65'), ([2, 0] * 65 + [0], 'refused=12 place=129')]:
+            out = self.told('letter 1, from 0: ' + reason, *trees(named, letter(2, 0, 1) + letter(*nodes)))
+            self.assertEqual(out, b'then(text, annex)\n')
+        self.told('walker refused=4 place=1', *trees(self.path('bad', blocks(b'W')), letter(0)))
+        self.told('line 1: a line begins with', *trees(self.path('bad', 'walker'), letter(0)))
+
     def test_lost_output(self):
         script = os.path.join(HERE, 'twa.py')
         file = os.path.join(SAMPLES, 'annex', 'walker.blk')

@@ -5,6 +5,7 @@
     tools/twa.py letters TEXT TREES FILE   writes the letters of a list of trees, end to end, by a walker's text
     tools/twa.py show FILE                 prints what a walker or letter file, or letters end to end, hold
     tools/twa.py plan TEXT PLAN            prints the tree that a plan's bytes build, by a walker's text
+    tools/twa.py trees WALKER FILE         prints the tree of each letter, end to end, by a walker's text or file
 
 A walker's text has a line for each part; '#' starts a comment. States and symbols are names or numbers; they are numbered
 from 0 in the order in which they are listed. A symbol with '*' behind it is a branch symbol.
@@ -320,13 +321,47 @@ def letter(block, source):
     return contents(block + rest), nodes
 
 
-def show_letters(block, source, out):
-    """Prints the nodes of each letter; the table's lines from 10 on need a walker."""
+def check_tree(walker, nodes):
+    """Lines 10 to 12, of the nodes of a letter."""
+    for node, symbol in enumerate(nodes):
+        if symbol >= len(walker.names):
+            raise refused(10, node, f'node {node} has the symbol {symbol}; {len(walker.names) - 1} is the last')
+    depths, deep = [0], None
+    for node, symbol in enumerate(nodes):
+        if not depths:
+            raise refused(11, node, f'the tree has ended before node {node}')
+        depth = depths.pop()
+        if depth > HEIGHT and deep is None:
+            deep = node
+        if symbol in walker.branches:
+            depths += [depth + 1] * 2
+    if depths:
+        raise refused(11, len(nodes), 'the tree has not ended by the last node')
+    if deep is not None:
+        raise refused(12, deep, f'node {deep} is {HEIGHT + 1} steps below the root')
+
+
+def tree_text(walker, nodes):
+    """The tree of a letter's nodes, as a list of trees has it."""
+    check_tree(walker, nodes)
+    trees = []
+    for symbol in reversed(nodes):
+        name = walker.names[symbol]
+        trees.append(f'{name}({trees.pop()}, {trees.pop()})' if symbol in walker.branches else name)
+    return trees.pop()
+
+
+def numbers(nodes):
+    return ' '.join(map(str, nodes))
+
+
+def show_letters(block, source, out, text=numbers):
+    """Prints the nodes of each letter, as numbers or as `text` has them; the table's lines from 10 on need a walker."""
     number = 0
     while block:
         prefix = f'letter {number}, from 0: '
         payload, nodes = prefixed(prefix, lambda: letter(block, source))
-        out.line(' '.join(map(str, payload[4:4 + nodes])))
+        out.line(prefixed(prefix, lambda: text(payload[4:4 + nodes])))
         prefixed(prefix, lambda: check_zeros(payload, [1, *range(4 + nodes, len(payload))]))
         block, number = source.read(512), number + 1
 
@@ -453,6 +488,20 @@ def read_walker(path):
     return of(path, lambda: Walker(read_text(path)))
 
 
+def walker_of(file):
+    """The walker of a file, with numbers for names."""
+    payload, rules = prefixed('walker ', lambda: walker_counts(file))
+    prefixed('walker ', lambda: check_walker(payload, rules))
+    return Walker('\n'.join(map(' '.join, walker_lines(payload, rules))))
+
+
+def read_either(path):
+    """The walker of a text or of a file, which begins with its kind, W."""
+    with open(path, 'rb') as file:
+        start = file.read(WALKER_BYTES + 1)
+    return walker_of(start) if start[:1] == b'W' else Walker(read_text(path))
+
+
 def distinct(target, *sources):
     for source in sources:
         if os.path.isfile(target) and os.path.isfile(source) and os.path.samefile(target, source):
@@ -480,6 +529,19 @@ def show_file(path):
         out.end()
 
 
+def show_trees(walker, path):
+    out = Output()
+    read = of(walker, lambda: read_either(walker))
+
+    def show_all():
+        with open(path, 'rb') as source:
+            show_letters(source.read(512), source, out, lambda nodes: tree_text(read, nodes))
+    try:
+        of(path, show_all)
+    finally:
+        out.end()
+
+
 def show_plan(text, path):
     out = Output()
     walker = read_walker(text)
@@ -493,7 +555,7 @@ def show_help():
     out.end()
 
 
-COMMANDS = {('walker', 2): write_walker, ('letters', 3): write_letters, ('show', 1): show_file, ('plan', 2): show_plan, ('--help', 0): show_help}
+COMMANDS = {('walker', 2): write_walker, ('letters', 3): write_letters, ('show', 1): show_file, ('plan', 2): show_plan, ('trees', 2): show_trees, ('--help', 0): show_help}
 
 
 def fail(status, message):

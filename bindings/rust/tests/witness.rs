@@ -50,7 +50,7 @@ fn expected(automaton: &[u8], plan: &[u8], room: usize) -> Result<Vec<u8>, Refus
         file: File::Automaton,
         place,
     })?;
-    if plan.is_empty() || plan.len() % 3 != 0 || plan.len() > PLAN {
+    if plan.is_empty() || !plan.len().is_multiple_of(3) || plan.len() > PLAN {
         return refused(15, 0);
     }
     if let Some(place) = plan.chunks(3).enumerate().position(|(number, row)| is_bad(&automaton, number, row)) {
