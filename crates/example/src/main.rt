@@ -20,26 +20,26 @@ fn say_height(words: &[u8], height: usize) {
     io::write_all(2, b"\n");
 }
 
-// The first n bytes of a buffer, or none where it has fewer.
-fn front(buffer: &[u8], n: usize) -> &[u8] {
-    if n <= buffer.len() {
-        &buffer[..n]
+// The first n rows of a plan, or none where it has fewer.
+fn rows_front(plan: &[u8], n: usize) -> &[u8] {
+    if n <= plan.len() / 3 {
+        blocks::front(plan, 3 * n)
     } else {
-        &buffer[..0]
+        &plan[..0]
     }
 }
 
-fn print_letter(letter: &[u8]) {
-    if !io::write_all(1, letter) {
+fn print_tree(file: &[u8]) {
+    if !io::write_all(1, file) {
         io::write_all(2, b"example: output lost\n");
     }
 }
 
-// The plan's tree. A letter's file has at most 4,608 bytes, so that 13 is not met.
-fn write_letter(file: &[u8], plan: &[u8]) {
+// The plan's tree. A tree's file has at most 4,608 bytes, so that 13 is not met.
+fn write_tree(file: &[u8], plan: &[u8]) {
     let mut out = [0u8; 4608];
     match witness::file::write(file, plan, &mut out) {
-        Written::Bytes(n) => print_letter(front(&out, n)),
+        Written::Bytes(n) => print_tree(blocks::front(&out, n)),
         Written::Refused(refusal) => say_refused(b"example: plan refused=", refusal),
     }
 }
@@ -47,7 +47,7 @@ fn write_letter(file: &[u8], plan: &[u8]) {
 fn write_found(file: &[u8]) {
     let mut plan = [0u8; 195];
     match emptiness::file::survey(file, &mut plan) {
-        Survey::Found { height: _, rows } => write_letter(file, front(&plan, rows % 128 * 3)),
+        Survey::Found { height: _, rows } => write_tree(file, rows_front(&plan, rows)),
         Survey::Open(height) => say_height(b"example: none found: survey open height=", height),
         Survey::Empty(height) => say_height(b"example: none passes: survey empty height=", height),
         Survey::Refused(refusal) => say_refused(b"example: walker refused=", refusal),
@@ -58,5 +58,5 @@ fn write_found(file: &[u8]) {
 fn main() {
     let mut file = [0u8; 3073];
     let n = io::read_full(0, &mut file);
-    write_found(front(&file, n));
+    write_found(blocks::front(&file, n));
 }
