@@ -3,11 +3,12 @@
 use Prim.Native.Nat.{ℕ, _+_, _*_, _%_, _<_, _≤_}
 use native.Mathlib.Omega.{arith}
 use mathlib.Core.Path.{_≡_, refl, sym, ap, subst, _∙_}
-use mathlib.Core.Bool.{false}
+use mathlib.Core.Bool.{Bool, true, false}
 use mathlib.Core.List.{List, _++_}
 use lib.ListN.{length, take, drop}
+use lib.Dec.{ltb}
 use lib.Seq.{take-at}
-use borrow.Author.Tests.{eq-eqb, ne-eqb, le-ltb, lt-leb}
+use borrow.Author.Tests.{eq-eqb, ne-eqb, le-ltb, lt-leb, ltb-false}
 use Rattle.blocks.specs.Blocks.{content}
 use Rattle.blocks.proofs.Laws.{find-nothing}
 use Rattle.relation.specs.Bit.{bit}
@@ -23,8 +24,9 @@ use Rattle.algorithms.proofs.Alphabets.{of-numbered}
 use Rattle.algorithms.specs.Saturate.{languageOf, algebraOf}
 use Rattle.algorithms.proofs.Recognized.{recognizes}
 use Rattle.algorithms.proofs.Theorems.{demand-3, count-unique}
-use Rattle.refusal.specs.Checks.{_andThen_}
+use Rattle.refusal.specs.Checks.{refuseIf, _andThen_}
 use Rattle.refusal.specs.declared.Check.{Check}
+use Rattle.refusal.specs.declared.Fault.{Fault}
 use Rattle.refusal.specs.declared.Check.the-variants.{Passed, Refused}
 use Rattle.refusal.specs.declared.Refusal.{Refusal}
 use Rattle.refusal.proofs.Passed.{clash, both-passed}
@@ -39,7 +41,7 @@ use Rattle.tree_writer.proofs.Reading.{reads-back}
 use Rattle.membership.specs.Judged.{signatureOf, judged}
 use Rattle.membership.specs.declared.Answer.{Answer}
 use Rattle.membership.proofs.Proved.{judged-right}
-use Rattle.emptiness.specs.Surveyed.{planBytes, surveyed}
+use Rattle.emptiness.specs.Surveyed.{planBytes, bufferCheck, afterCheck as afterBuffer, surveyedBy, surveyed}
 use Rattle.emptiness.specs.Demand3.{Planned}
 use Rattle.emptiness.specs.declared.Survey.{Survey}
 use Rattle.emptiness.proofs.Proved.{surveyed-right}
@@ -120,6 +122,17 @@ plan-passes sg p n e some few rows =
     rw (ne-eqb (length p) 0 a, eq-eqb (length p % 3) 0 b, le-ltb 195 (length p) c, none)
 
 -- ---- the plan of a Found
+
+-- a survey that finds had a buffer that is long enough
+long-enough : (w : List ℕ) (h : Header) → parsed w ≡ Parsed.Read h → (buffer : List ℕ) (high rows : ℕ)
+    → surveyed w buffer .answer ≡ Survey.Found high rows → 195 ≤ length buffer
+unfolding surveyed surveyedBy bufferCheck
+long-enough w h read buffer high rows told = by (ltb (length buffer) 195) refl (rw read at told)
+  where
+    by : (t : Bool) → ltb (length buffer) 195 ≡ t
+        → afterBuffer (refuseIf t Fault.Buffer 2 195) (automatonOf h (content w)) buffer .answer ≡ Survey.Found high rows → 195 ≤ length buffer
+    by true f e = clash (cc)
+    by false f e = ltb-false (length buffer) 195 f
 
 module _ (w : List ℕ) (h : Header) (read : parsed w ≡ Parsed.Read h) (buffer : List ℕ) (high rows : ℕ) (enough : 195 ≤ length buffer)
     (told : surveyed w buffer .answer ≡ Survey.Found high rows) where
@@ -205,10 +218,10 @@ module _ (w p before : List ℕ) where
       → (t : Tree) × PlanTree (signatureOf (automatonOf h (content w))) p t
   tree-promise h read e l = (planTree p, plan-tree (signatureOf (automatonOf h (content w))) p (plan-passed (signatureOf (automatonOf h (content w))) p e) (large-passed p l))
 
-  found-promise : (h : Header) → parsed w ≡ Parsed.Read h → (buffer : List ℕ) (high rows : ℕ) → 195 ≤ length buffer
+  found-promise : (h : Header) → parsed w ≡ Parsed.Read h → (buffer : List ℕ) (high rows : ℕ)
       → surveyed w buffer .answer ≡ Survey.Found high rows → p ≡ take (3 * rows) (surveyed w buffer .buffer)
       → FoundWritten w (automatonOf h (content w)) p before (written w p before)
-  found-promise h read buffer high rows enough told e =
+  found-promise h read buffer high rows told e =
       record {
         not-15 = passes;
         unless-stopped = λ a b. rw (written-is h read) (stops-not (signatureOf (automatonOf h (content w))) p before passes a b);
@@ -216,6 +229,9 @@ module _ (w p before : List ℕ) where
         by-runs = runs;
       }
     where
+      enough : 195 ≤ length buffer
+      enough = long-enough w h read buffer high rows told
+
       bytes : p ≡ planBytes (planned w h read buffer high rows enough told .plan)
       bytes = e ∙ found-bytes w h read buffer high rows enough told
 

@@ -2,7 +2,7 @@
 -- Interface: `Promise`.
 use mathlib.Core.Path.{_≡_}
 use mathlib.Core.List.{List, _++_}
-use Prim.Native.Nat.{ℕ, _*_, _≤_}
+use Prim.Native.Nat.{ℕ, _*_}
 use lib.ListN.{length, take, drop}
 use Rattle.model.specs.Trees.{Tree}
 use Rattle.model.specs.Saturation.{Builds}
@@ -54,7 +54,7 @@ pub record Promise (w p before : List ℕ) (o : Outcome) : Type 0 where
       → let sg = signatureOf (automatonOf h (content w)) in planCheck sg p ≡ Passed → largeCheck p ≡ Passed → (t : Tree) × PlanTree sg p t
   pub file : (h : Header) → parsed w ≡ Parsed.Read h → (n : ℕ) → o .answer ≡ Written.Bytes n
       → TreeWritten (signatureOf (automatonOf h (content w))) p before (o .out) n
-  -- "a plan from Found": the 3 × rows bytes that a survey of this file left in any buffer (one under 195 bytes is refused)
-  pub found : (h : Header) → parsed w ≡ Parsed.Read h → (buffer : List ℕ) (height rows : ℕ) → 195 ≤ length buffer
+  -- "a plan from Found": the 3 × rows bytes that a survey of this file left in any buffer
+  pub found : (h : Header) → parsed w ≡ Parsed.Read h → (buffer : List ℕ) (height rows : ℕ)
       → surveyed w buffer .answer ≡ Survey.Found height rows → p ≡ take (3 * rows) (surveyed w buffer .buffer)
       → FoundWritten w (automatonOf h (content w)) p before o

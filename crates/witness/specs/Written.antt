@@ -1,5 +1,5 @@
 -- What is answered to an automaton's file, a plan and a lent output, and what is left in the output. The quotations are of document 02, W1.
--- Interface: `planFile`, `roomCheck`, `Outcome`, `outcome`, `writtenFor`, `written`.
+-- Interface: `planFile`, `roomCheck`, `spaceCheck`, `Outcome`, `outcome`, `writtenFor`, `written`.
 use mathlib.Core.List.{List, _++_}
 use Prim.Native.Nat.{ℕ}
 use lib.Dec.{ltb}
