@@ -1,6 +1,5 @@
 // Plans as bytes, by a reading of document 02's W1 that shares no code or definition with the engine: plans by chance and damaged ones, the
 // tree that a plan builds, as the file of a letter, and whether runs accept it.
-ghost use Prim.Native.Nat.{_≤_};
 use enumerated::rows;
 use sampling::access::byte;
 use sampling::access::has;
