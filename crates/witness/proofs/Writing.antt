@@ -5,8 +5,8 @@ use native.Mathlib.Omega.{arith}
 use native.Mathlib.Numerals.{add-one}
 use mathlib.Core.Path.{_≡_, ap, _∙_}
 use mathlib.Core.List.{List, [], _∷_, _++_}
-use lib.ListN.{length, getD, set, drop, length-set}
-use lib.Seq.{sets, sets-eq, length-sets}
+use lib.ListN.{length, getD, set, drop}
+use lib.Seq.{sets, sets-eq}
 use Rattle.model.specs.Trees.{Tree, leaf, node, size}
 use Rattle.nodes.specs.Preorder.{preorder}
 use Rattle.nodes.proofs.Standing.{size-preorder}
@@ -55,6 +55,3 @@ pub front-written : (t : Tree) (out : List ℕ) → size t ≤ length out → se
 front-written t out h =
     let e : 0 + length (preorder t) ≡ size t = omega (arith, size-preorder t) in
     sets-eq (preorder t) out 0 (omega (arith, size-preorder t)) ∙ ap (λ (n : ℕ). preorder t ++ drop n out) e
-
-pub written-length : (x out : List ℕ) (at σ m : ℕ) (vs : List ℕ) → x ≡ sets (set out at σ) m vs → length x ≡ length out
-written-length x out at σ m vs e = ap length e ∙ length-sets (set out at σ) m vs ∙ length-set out at σ

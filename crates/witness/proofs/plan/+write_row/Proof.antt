@@ -1,16 +1,15 @@
 -- `witness::plan::write_row` meets its contract.
 -- Assumes nothing.
 use borrow.Author.Needs.{needs}
-use Prim.Native.Nat.{ℕ, _+_, _<_}
+use Prim.Native.Nat.{ℕ, _<_}
 use native.Mathlib.Omega.{arith}
 use mathlib.Core.Path.{_∙_}
 use lib.ListN.{length-set}
 use borrow.Fn.Kinds.{In}
 use borrow.Fn.PlainCycle.{Measures, is, falls, and}
-use Rattle.nodes.specs.Preorder.{preorder}
-use Rattle.witness.specs.Plan.{symbolAt, leftAt, rowTree}
+use Rattle.witness.specs.Plan.{rowTree}
 use Rattle.witness.proofs.Passed.{leaf-tree, node-tree}
-use Rattle.witness.proofs.Writing.{leaf-size, node-size, size-some, leaf-written, node-written, written-length}
+use Rattle.witness.proofs.Writing.{leaf-size, node-size, size-some, leaf-written, node-written}
 use Rattle.witness.proofs.plan.write_row.Reads as write-row
 use Rattle.witness.proofs.plan.write_row.Kinds as write-row-kinds
 use Rattle.witness.proofs.plan.+write_row.Lts-write_row as write-row-lts
@@ -46,7 +45,7 @@ left-requires t c κs =
     let i = q .args .row .0 in
     let b = node-tree p (q .pre .1 .0) i (q .pre .1 .1) (c .before .before .if1 .left) in
     let w = node-size p (q .pre .1 .0) i (q .pre .1 .1) (c .before .before .if1 .left) in
-    (omega (arith, b .left), (q .pre .1 .0, omega (arith, b .left, q .pre .1 .1), simp length-set (omega (arith, w, q .pre .1 .2))))
+    (omega (arith, b .left, b .right), (q .pre .1 .0, omega (arith, b .left, b .right, q .pre .1 .1), simp length-set (omega (arith, w, q .pre .1 .2))))
 
 right-requires : (t : ℕ) → write-row-lts.Need-write-row-requires-2 (calls t) (given t) write-row.Post
 right-requires t c κs =
@@ -56,8 +55,8 @@ right-requires t c κs =
     let b = node-tree p (q .pre .1 .0) i (q .pre .1 .1) (c .before .before .before .before .before .before .if1 .left) in
     let w = node-size p (q .pre .1 .0) i (q .pre .1 .1) (c .before .before .before .before .before .before .if1 .left) in
     let l = c .before .before .before .write-row .ensures in
-    let n = written-length _ (q .args .nodes .now) (q .args .at) (symbolAt p i) (q .args .at + 1) (preorder (rowTree p (leftAt p i))) (l .1) in
-    (omega (arith, b .right), (q .pre .1 .0, omega (arith, b .right, q .pre .1 .1), omega (arith, w, l .0, n, q .pre .1 .2)))
+    let n = simp length-set at (c .before .before .nodes .given) in
+    (omega (arith, b .left, b .right), (q .pre .1 .0, omega (arith, b .left, b .right, q .pre .1 .1), omega (arith, w, l .0, n, q .pre .1 .2)))
 
 node-returns : (t : ℕ) → write-row-lts.Need-returns-2 (calls t) (given t) write-row.Post
 node-returns t c =
