@@ -1,13 +1,13 @@
 -- What is known where lines 3 to 9 passed, up to a file that reads.
 -- Assumes nothing.
-use Prim.Native.Nat.{ℕ, _+_, _*_, _<_}
-use mathlib.Core.Path.{_≡_, refl, sym}
+use Prim.Native.Nat.{ℕ, _+_, _*_, _<_, _≤_}
+use mathlib.Core.Path.{_≡_, refl, sym, ap}
 use mathlib.Core.Bool.{Bool, true, false, _&&_}
 use mathlib.Core.List.{List}
 use native.Mathlib.Omega.{arith}
 use borrow.Author.Tests.{ltb-true}
 use lib.Dec.{ltb}
-use lib.ListN.{length, getD, take}
+use lib.ListN.{length, getD, take, length-take}
 use Rattle.blocks.specs.Blocks.{content}
 use Rattle.blocks.proofs.Laws.{joined-is}
 use Rattle.refusal.specs.Checks.{_andThen_}
@@ -122,3 +122,7 @@ file-read s h e =
 pub contents-are : (s before after : List ℕ) (r : Parsed) (h : Header) (n : ℕ) → r ≡ Parsed.Read h → after ≡ contentsAfter r s before
     → n ≡ length (content s) → take n after ≡ content s
 contents-are s before after r h n e a m = joined-is s n before after m (rw (e, sym m) at a)
+
+-- and that the buffer is long enough for it
+pub contents-fit : (s after : List ℕ) (n : ℕ) → n ≡ length (content s) → take n after ≡ content s → n ≤ length after
+contents-fit s after n e t = omega (arith, length-take n after, ap length t, e)

@@ -1,4 +1,5 @@
 -- An automaton that is written can be read: `ReadsBack` is what the file of a header and its rules comes to, where they pass the table.
+-- Interface: `Passing`, `automatonFile`, `ReadsBack`.
 use Prim.Native.Nat.{ℕ, _<_}
 use mathlib.Core.Path.{_≡_}
 use mathlib.Core.Bool.{false}

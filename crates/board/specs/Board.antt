@@ -1,5 +1,6 @@
 -- The board of document 01: one table of the rows (a) to (k), and what it is for a row to be right, in terms of runs, and of trees of every
 -- size.
+-- Interface: `rows`, `Right`.
 use mathlib.Core.Path.{_≡_}
 use mathlib.Core.Logic.{_↔_}
 use mathlib.Core.Bool.{Bool, true, false}

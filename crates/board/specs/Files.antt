@@ -1,4 +1,5 @@
 -- The files of document 01's board.
+-- Interface: `walker`, `letter`, `fileA`, `fileA+`, `fileI`, `fileJ`.
 use Prim.Native.Nat.{ℕ}
 use mathlib.Core.List.{List, [], _∷_, _++_}
 use Rattle.blocks.specs.FileOf.{fileOf}

@@ -1,4 +1,5 @@
 -- A class of the code as the definition has it.
+-- Interface: `partsIn`.
 use Rattle.algorithms.specs.Saturate.{Parts, parts}
 use Rattle.classes.specs.declared.Class.{Class}
 

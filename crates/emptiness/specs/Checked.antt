@@ -1,4 +1,5 @@
 -- What the approximation of an automaton's file answers (document 01's quick check). Definitions only.
+-- Interface: `checkedBy`, `checked`.
 use mathlib.Core.Bool.{Bool, true, false}
 use mathlib.Core.List.{List}
 use Prim.Native.Nat.{ℕ}

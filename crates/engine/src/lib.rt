@@ -18,7 +18,7 @@ ghost use Rattle.tally.specs.Tally.{countedUp, percentOf};
 ghost use Rattle.batch.specs.Batch.{talliedOf};
 ghost use Rattle.text.specs.Appended.{Appended};
 ghost use Rattle.report_text.specs.Report.{reportOf};
-ghost use Rattle.witness.specs.Written.{outcome, written};
+ghost use Rattle.witness.specs.Written.{filled, witnessOf};
 ghost use Rattle.witness.specs.Promise.{Promise};
 
 // Whether an automaton's file accepts a tree's file.
@@ -39,8 +39,8 @@ pub fn survey(file: &[u8], plan: &mut [u8]) -> emptiness::Survey
 
 // The tree that a plan builds, as a tree's file at the front of the output: the plan that a survey of the automaton's file found, or any other.
 pub fn witness(file: &[u8], plan: &[u8], out: &mut [u8]) -> witness::Written
-    ensures equals { λ r. ⌜ outcome r (now (out .exit)) ≡ written (now (file .entry)) (now (plan .entry)) (now (out .entry)) ⌝ }
-    ensures right { λ r. ⌜ Promise (now (file .entry)) (now (plan .entry)) (now (out .entry)) (outcome r (now (out .exit))) ⌝ }
+    ensures equals { λ r. ⌜ filled r (now (out .exit)) ≡ witnessOf (now (file .entry)) (now (plan .entry)) (now (out .entry)) ⌝ }
+    ensures right { λ r. ⌜ Promise (now (file .entry)) (now (plan .entry)) (now (out .entry)) (filled r (now (out .exit))) ⌝ }
 {
     witness::file::write(file, plan, out)
 }

@@ -17,7 +17,7 @@ ghost use Rattle.tally.specs.Tally.{countedUp, percentOf};
 ghost use Rattle.batch.specs.Batch.{talliedOf};
 ghost use Rattle.text.specs.Appended.{Appended};
 ghost use Rattle.report_text.specs.Report.{reportOf};
-ghost use Rattle.witness.specs.Written.{outcome, written};
+ghost use Rattle.witness.specs.Written.{filled, witnessOf};
 ghost use Rattle.witness.specs.Promise.{Promise};
 ghost use Rattle.numbering.specs.Numbers.{answerNumber, answerTold, surveyNumber, surveyTold, quickNumber, quickTold, singleNumber, singleTold, writtenNumber, writtenTold, outcomeNumbered, tallyOf, tallyNumbers, checkNumber, checkTold, judgedTally};
 
@@ -52,11 +52,11 @@ pub extern "C" fn engine_witness(
     out: &mut [u8],
     told: &mut [usize; 3],
 ) -> u32
-    ensures equals { λ r. ⌜ (r ≡ writtenNumber (written (now (file .entry)) (now (plan .entry)) (now (out .entry)) .answer))
-        × (now (told .exit) ≡ writtenTold (written (now (file .entry)) (now (plan .entry)) (now (out .entry)) .answer))
-        × (now (out .exit) ≡ written (now (file .entry)) (now (plan .entry)) (now (out .entry)) .out) ⌝ }
+    ensures equals { λ r. ⌜ (r ≡ writtenNumber (witnessOf (now (file .entry)) (now (plan .entry)) (now (out .entry)) .answer))
+        × (now (told .exit) ≡ writtenTold (witnessOf (now (file .entry)) (now (plan .entry)) (now (out .entry)) .answer))
+        × (now (out .exit) ≡ witnessOf (now (file .entry)) (now (plan .entry)) (now (out .entry)) .out) ⌝ }
     ensures right { λ r. ⌜ ((a : Written) × (r ≡ writtenNumber a) × (now (told .exit) ≡ writtenTold a)
-        × Promise (now (file .entry)) (now (plan .entry)) (now (out .entry)) (outcome a (now (out .exit)))) ⌝ }
+        × Promise (now (file .entry)) (now (plan .entry)) (now (out .entry)) (filled a (now (out .exit)))) ⌝ }
 {
     numbering::put_written(crate::witness(file, plan, out), told)
 }

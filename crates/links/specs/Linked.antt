@@ -1,4 +1,5 @@
 -- What the links are in the model. `Linked` is the record to cite; proofs/Linking has the proof of it for every node.
+-- Interface: `Linked`.
 use mathlib.Core.Path.{_≡_}
 use mathlib.Core.List.{List, [], _∷_}
 use Prim.Native.Nat.{ℕ}

@@ -1,4 +1,5 @@
 -- The nodes of a tree by number: the index in preorder, from 0. `Numbered` ties them to the model's positions.
+-- Interface: `Numbered`.
 use mathlib.Core.List.{[], _∷_}
 use Prim.Native.Nat.{ℕ, _+_}
 use Rattle.model.specs.declared.Side.the-variants.{Left, Right}

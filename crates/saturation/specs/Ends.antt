@@ -1,4 +1,5 @@
 -- The verdict of what the code comes to, with the table of rows that it left.
+-- Interface: `verdictOf`, `FoundFew`.
 use mathlib.Core.List.{List, [], _∷_, _++_}
 use Prim.Native.Nat.{ℕ, _≤_}
 use Rattle.model.specs.Saturation as saturation

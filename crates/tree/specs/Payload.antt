@@ -1,4 +1,5 @@
 -- The payload of a tree's file (document 01, the letter file). `payloadOf` and `treeFile` are the definitions to cite.
+-- Interface: `payloadOf`, `treeFile`.
 use Prim.Native.Nat.{ℕ, _/_, _%_}
 use mathlib.Core.List.{List, _∷_}
 use lib.ListN.{length}

@@ -1,4 +1,5 @@
 -- A tree that is written can be read: `ReadsBack` is what the file of a tree comes to.
+-- Interface: `ReadsBack`.
 use mathlib.Core.Path.{_≡_}
 use Rattle.blocks.specs.Blocks.{content}
 use Rattle.model.specs.Trees.{Tree, size}

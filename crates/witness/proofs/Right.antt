@@ -46,7 +46,7 @@ use Rattle.emptiness.specs.Demand3.{Planned}
 use Rattle.emptiness.specs.declared.Survey.{Survey}
 use Rattle.emptiness.proofs.Proved.{surveyed-right}
 use Rattle.witness.specs.Plan.{planRows, rowsIn, symbolAt, leftAt, rightAt, planTree, lengthWrong, partsWrong, rowWrong, planCheck, largeCheck}
-use Rattle.witness.specs.Written.{planFile, roomCheck, spaceCheck, Outcome, outcome, afterCheck, writtenFor, written}
+use Rattle.witness.specs.Written.{planFile, roomCheck, spaceCheck, Filled, filled, filledAfter, witnessFor, witnessOf}
 use Rattle.witness.specs.Promise.{PlanTree, TreeWritten, FoundWritten, Promise}
 use Rattle.witness.specs.declared.Written.{Written}
 use Rattle.witness.proofs.Passed.{PlanPassed, plan-passed, sound}
@@ -70,18 +70,18 @@ module _ (sg : Signature) (p : List ℕ) (passed : PlanPassed sg p) where
 
 -- ---- an answer, back to its checks
 
-after-bytes : (c : Check) (p out : List ℕ) (n : ℕ) → afterCheck c p out .answer ≡ Written.Bytes n
-    → (c ≡ Passed) × (n ≡ length (planFile p)) × (afterCheck c p out .out ≡ planFile p ++ drop n out)
+after-bytes : (c : Check) (p out : List ℕ) (n : ℕ) → filledAfter c p out .answer ≡ Written.Bytes n
+    → (c ≡ Passed) × (n ≡ length (planFile p)) × (filledAfter c p out .out ≡ planFile p ++ drop n out)
 after-bytes Passed p out n e = let same : length (planFile p) ≡ n = cc in (refl, sym same, ap (λ (k : ℕ). planFile p ++ drop k out) same)
 after-bytes (Refused r) p out n e = clash (cc)
 
-after-kept : (c : Check) (p out : List ℕ) (r : Refusal) → afterCheck c p out .answer ≡ Written.Refused r → afterCheck c p out .out ≡ out
+after-kept : (c : Check) (p out : List ℕ) (r : Refusal) → filledAfter c p out .answer ≡ Written.Refused r → filledAfter c p out .out ≡ out
 after-kept Passed p out r e = clash (cc)
 after-kept (Refused q) p out r e = refl
 
-file-written : (sg : Signature) (p out : List ℕ) (n : ℕ) → writtenFor sg p out .answer ≡ Written.Bytes n
-    → TreeWritten sg p out (writtenFor sg p out .out) n
-unfolding writtenFor
+file-written : (sg : Signature) (p out : List ℕ) (n : ℕ) → witnessFor sg p out .answer ≡ Written.Bytes n
+    → TreeWritten sg p out (witnessFor sg p out .out) n
+unfolding witnessFor
 file-written sg p out n e =
     let a = after-bytes (planCheck sg p andThen spaceCheck p (length out)) p out n e in
     let both = both-passed (planCheck sg p) (spaceCheck p (length out)) (a .0) in
@@ -184,32 +184,32 @@ module _ (w : List ℕ) (h : Header) (read : parsed w ≡ Parsed.Read h) (buffer
 
 -- where no check stops it, the file's length is told
 stops-not : (sg : Signature) (p out : List ℕ) → planCheck sg p ≡ Passed → largeCheck p ≡ Passed → roomCheck p (length out) ≡ Passed
-    → writtenFor sg p out .answer ≡ Written.Bytes (length (planFile p))
-unfolding writtenFor
+    → witnessFor sg p out .answer ≡ Written.Bytes (length (planFile p))
+unfolding witnessFor
 stops-not sg p out e a b = rw (e, space-passes p (length out) a b)
 
 module _ (w p before : List ℕ) where
-  pub refused-is : (r : Refusal) → parsed w ≡ Parsed.Refused r → written w p before ≡ outcome (Written.Refused r) before
-  unfolding written
+  pub refused-is : (r : Refusal) → parsed w ≡ Parsed.Refused r → witnessOf w p before ≡ filled (Written.Refused r) before
+  unfolding witnessOf
   refused-is r read = rw read
 
-  pub written-is : (h : Header) → parsed w ≡ Parsed.Read h → written w p before ≡ writtenFor (signatureOf (automatonOf h (content w))) p before
-  unfolding written
-  written-is h read = rw read
+  pub witness-is : (h : Header) → parsed w ≡ Parsed.Read h → witnessOf w p before ≡ witnessFor (signatureOf (automatonOf h (content w))) p before
+  unfolding witnessOf
+  witness-is h read = rw read
 
-  file-promise : (h : Header) → parsed w ≡ Parsed.Read h → (n : ℕ) → written w p before .answer ≡ Written.Bytes n
-      → TreeWritten (signatureOf (automatonOf h (content w))) p before (written w p before .out) n
+  file-promise : (h : Header) → parsed w ≡ Parsed.Read h → (n : ℕ) → witnessOf w p before .answer ≡ Written.Bytes n
+      → TreeWritten (signatureOf (automatonOf h (content w))) p before (witnessOf w p before .out) n
   file-promise h read n e =
-      subst (λ (o : Outcome). TreeWritten (signatureOf (automatonOf h (content w))) p before (o .out) n) (sym (written-is h read))
-      (file-written (signatureOf (automatonOf h (content w))) p before n (ap (λ (o : Outcome). o .answer) (sym (written-is h read)) ∙ e))
+      subst (λ (o : Filled). TreeWritten (signatureOf (automatonOf h (content w))) p before (o .out) n) (sym (witness-is h read))
+      (file-written (signatureOf (automatonOf h (content w))) p before n (ap (λ (o : Filled). o .answer) (sym (witness-is h read)) ∙ e))
 
   -- the bytes told of are the file
-  front-is : (h : Header) (n : ℕ) (t : TreeWritten (signatureOf (automatonOf h (content w))) p before (written w p before .out) n)
-      → take n (written w p before .out) ≡ treeFile (t .tree)
+  front-is : (h : Header) (n : ℕ) (t : TreeWritten (signatureOf (automatonOf h (content w))) p before (witnessOf w p before .out) n)
+      → take n (witnessOf w p before .out) ≡ treeFile (t .tree)
   front-is h n t = ap (take n) (t .bytes) ∙ take-at (treeFile (t .tree)) (drop n before) n (sym (t .long))
 
-  kept-promise : (q : Parsed) → parsed w ≡ q → (r : Refusal) → written w p before .answer ≡ Written.Refused r → written w p before .out ≡ before
-  unfolding written writtenFor
+  kept-promise : (q : Parsed) → parsed w ≡ q → (r : Refusal) → witnessOf w p before .answer ≡ Written.Refused r → witnessOf w p before .out ≡ before
+  unfolding witnessOf witnessFor
   kept-promise (Parsed.Refused s) read r e = rw read
   kept-promise (Parsed.Read h) read r e =
       rw read (after-kept (planCheck (signatureOf (automatonOf h (content w))) p andThen spaceCheck p (length before)) p before r (rw read at e))
@@ -220,11 +220,11 @@ module _ (w p before : List ℕ) where
 
   found-promise : (h : Header) → parsed w ≡ Parsed.Read h → (buffer : List ℕ) (high rows : ℕ)
       → surveyed w buffer .answer ≡ Survey.Found high rows → p ≡ take (3 * rows) (surveyed w buffer .buffer)
-      → FoundWritten w (automatonOf h (content w)) p before (written w p before)
+      → FoundWritten w (automatonOf h (content w)) p before (witnessOf w p before)
   found-promise h read buffer high rows told e =
       record {
         not-15 = passes;
-        unless-stopped = λ a b. rw (written-is h read) (stops-not (signatureOf (automatonOf h (content w))) p before passes a b);
+        unless-stopped = λ a b. rw (witness-is h read) (stops-not (signatureOf (automatonOf h (content w))) p before passes a b);
         judged-accepted = λ n f. let t = file-promise h read n f in rw (front-is h n t) (accepts (t .tree) (t .plan));
         by-runs = runs;
       }
@@ -247,5 +247,5 @@ module _ (w p before : List ℕ) where
           let same : t ≡ j .tree = j .one t (pl .reads-back .writes) in
           j .accepted .1 (subst (λ (u : Tree). Accepted (automatonOf h (content w)) u) same (runs t (pl .builds)))
 
-  pub written-right : Promise w p before (written w p before)
-  written-right = record { kept = kept-promise (parsed w) refl; tree = tree-promise; file = file-promise; found = found-promise }
+  pub witness-right : Promise w p before (witnessOf w p before)
+  witness-right = record { kept = kept-promise (parsed w) refl; tree = tree-promise; file = file-promise; found = found-promise }

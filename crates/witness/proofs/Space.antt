@@ -19,7 +19,7 @@ use Rattle.nodes.specs.Preorder.{preorder}
 use Rattle.nodes.proofs.Standing.{size-preorder}
 use Rattle.tree_writer.proofs.Reading.{payload-length}
 use Rattle.witness.specs.Plan.{planTree, largeCheck}
-use Rattle.witness.specs.Written.{planFile, roomCheck, spaceCheck, outcome}
+use Rattle.witness.specs.Written.{planFile, roomCheck, spaceCheck, filled}
 use Rattle.witness.specs.declared.Written.{Written}
 
 pub large : (p : List ℕ) (n : ℕ) → n ≡ min (size (planTree p)) 4097 → 4096 < n → largeCheck p ≡ refused Fault.Large 2 0
@@ -64,5 +64,5 @@ unfolding spaceCheck
 space-passes p room l r = rw (l, r)
 
 pub told : (r : ℕ) (x file out : List ℕ) → r ≡ length file → x ≡ file ++ drop r out
-    → outcome (Written.Bytes r) x ≡ outcome (Written.Bytes (length file)) (file ++ drop (length file) out)
+    → filled (Written.Bytes r) x ≡ filled (Written.Bytes (length file)) (file ++ drop (length file) out)
 told r x file out e f = rw (f, e)

@@ -22,7 +22,7 @@ use Rattle.membership.specs.declared.Answer.{Answer}
 use Rattle.emptiness.specs.Surveyed.{surveyed}
 use Rattle.emptiness.specs.declared.Survey.{Survey}
 use Rattle.witness.specs.Plan.{planRows, planCheck, largeCheck}
-use Rattle.witness.specs.Written.{Outcome, planFile, roomCheck}
+use Rattle.witness.specs.Written.{Filled, planFile, roomCheck}
 use Rattle.witness.specs.declared.Written.{Written}
 
 -- the plan p builds a tree, and no other; "reading the file back gives the plan's tree"
@@ -39,14 +39,14 @@ pub record TreeWritten (sg : Signature) (p before after : List ℕ) (n : ℕ) : 
   pub bytes : after ≡ treeFile tree ++ drop n before
 
 -- "a plan from Found, if neither 16 nor 13 stops it, gives a letter that this walker accepts": by what judging answers, and by runs
-pub record FoundWritten (w : List ℕ) (A : Automaton) (p before : List ℕ) (o : Outcome) : Type 0 where
+pub record FoundWritten (w : List ℕ) (A : Automaton) (p before : List ℕ) (o : Filled) : Type 0 where
   pub not-15 : planCheck (signatureOf A) p ≡ Passed
   pub unless-stopped : largeCheck p ≡ Passed → roomCheck p (length before) ≡ Passed → o .answer ≡ Written.Bytes (length (planFile p))
   pub judged-accepted : (n : ℕ) → o .answer ≡ Written.Bytes n → judged w (take n (o .out)) ≡ Answer.Accepted
   pub by-runs : (t : Tree) → Builds (planRows p) t → Accepted A t
 
 -- of an automaton's file w, the plan p, the output before, and the answer with the output afterwards
-pub record Promise (w p before : List ℕ) (o : Outcome) : Type 0 where
+pub record Promise (w p before : List ℕ) (o : Filled) : Type 0 where
   -- "a refused call leaves every lent byte as it was"
   pub kept : (r : Refusal) → o .answer ≡ Written.Refused r → o .out ≡ before
   -- every plan that 15 and 16 pass has its tree, whether or not 13 stops it

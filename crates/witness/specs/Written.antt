@@ -1,5 +1,5 @@
 -- What is answered to an automaton's file, a plan and a lent output, and what is left in the output. The quotations are of document 02, W1.
--- Interface: `planFile`, `roomCheck`, `spaceCheck`, `Outcome`, `outcome`, `writtenFor`, `written`.
+-- Interface: `planFile`, `roomCheck`, `spaceCheck`, `Filled`, `filled`, `witnessFor`, `witnessOf`.
 use mathlib.Core.List.{List, _++_}
 use Prim.Native.Nat.{ℕ}
 use lib.Dec.{ltb}
@@ -27,22 +27,22 @@ unfoldable pub spaceCheck : (plan : List ℕ) → (room : ℕ) → Check
 spaceCheck p room = largeCheck p andThen roomCheck p room
 
 -- an answer, and the lent bytes afterwards
-pub record Outcome : Type 0 where
+pub record Filled : Type 0 where
   pub answer : Written
   pub out : List ℕ
 
-abbrev pub outcome : Written → List ℕ → Outcome
-outcome answer out = record { answer = answer; out = out }
+abbrev pub filled : Written → List ℕ → Filled
+filled answer out = record { answer = answer; out = out }
 
 -- "a call that writes a file tells its length, and a refused call leaves every lent byte as it was"; "bytes after the file are unchanged"
-abbrev pub afterCheck : Check → (plan out : List ℕ) → Outcome
-afterCheck (Check.Refused r) p out = outcome (Written.Refused r) out
-afterCheck Check.Passed p out = outcome (Written.Bytes (length (planFile p))) (planFile p ++ drop (length (planFile p)) out)
+abbrev pub filledAfter : Check → (plan out : List ℕ) → Filled
+filledAfter (Check.Refused r) p out = filled (Written.Refused r) out
+filledAfter Check.Passed p out = filled (Written.Bytes (length (planFile p))) (planFile p ++ drop (length (planFile p)) out)
 
 -- against a signature
-unfoldable pub writtenFor : Signature → (plan out : List ℕ) → Outcome
-writtenFor sg p out = afterCheck (planCheck sg p andThen spaceCheck p (length out)) p out
+unfoldable pub witnessFor : Signature → (plan out : List ℕ) → Filled
+witnessFor sg p out = filledAfter (planCheck sg p andThen spaceCheck p (length out)) p out
 
 -- "15, after the walker's own": of an automaton's file w
-unfoldable pub written : (w plan out : List ℕ) → Outcome
-written w p out = byAutomaton w (λ r. outcome (Written.Refused r) out) (λ A. writtenFor (signatureOf A) p out)
+unfoldable pub witnessOf : (w plan out : List ℕ) → Filled
+witnessOf w p out = byAutomaton w (λ r. filled (Written.Refused r) out) (λ A. witnessFor (signatureOf A) p out)

@@ -17,7 +17,7 @@ ghost use lib.ListN.{length, drop};
 ghost use Rattle.model.specs.Trees.{size};
 ghost use Rattle.witness.specs.Plan.{planTree};
 ghost use Rattle.witness.specs.Sound.{Sound};
-ghost use Rattle.witness.specs.Written.{planFile, spaceCheck, outcome, writtenFor, written};
+ghost use Rattle.witness.specs.Written.{planFile, spaceCheck, filled, witnessFor, witnessOf};
 ghost use Rattle.witness.specs.Promise.{Promise};
 
 // Refusal 16, then 13.
@@ -48,7 +48,7 @@ fn put_tree(plan: &[u8], out: &mut [u8]) -> usize
 
 // The same after the checks.
 fn write_checked(signature: Signature, plan: &[u8], out: &mut [u8]) -> Written
-    ensures { λ r. ⌜ outcome r (now (out .exit)) ≡ writtenFor signature (now (plan .entry)) (now (out .entry)) ⌝ }
+    ensures { λ r. ⌜ filled r (now (out .exit)) ≡ witnessFor signature (now (plan .entry)) (now (out .entry)) ⌝ }
 {
     if let Check::Refused(refusal) = plan_check(signature, plan) {
         return Written::Refused(refusal);
@@ -61,8 +61,8 @@ fn write_checked(signature: Signature, plan: &[u8], out: &mut [u8]) -> Written
 
 // The tree of a plan's last row as a tree's file, at the front of `out`: the plan is one for the symbols of an automaton's file.
 pub fn write(file: &[u8], plan: &[u8], out: &mut [u8]) -> Written
-    ensures equals { λ r. ⌜ outcome r (now (out .exit)) ≡ written (now (file .entry)) (now (plan .entry)) (now (out .entry)) ⌝ }
-    ensures right { λ r. ⌜ Promise (now (file .entry)) (now (plan .entry)) (now (out .entry)) (outcome r (now (out .exit))) ⌝ }
+    ensures equals { λ r. ⌜ filled r (now (out .exit)) ≡ witnessOf (now (file .entry)) (now (plan .entry)) (now (out .entry)) ⌝ }
+    ensures right { λ r. ⌜ Promise (now (file .entry)) (now (plan .entry)) (now (out .entry)) (filled r (now (out .exit))) ⌝ }
 {
     let mut contents = [0u8; 3048];
     match parse(file, &mut contents) {

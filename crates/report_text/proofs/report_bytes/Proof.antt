@@ -1,13 +1,12 @@
 -- `report_text::report_bytes` meets its contract: by what reading says.
 -- Assumes nothing.
 use borrow.Author.Needs.{needs}
-use native.Mathlib.Omega.{arith}
-use mathlib.Core.Path.{_≡_, sym, ap, _∙_}
-use lib.ListN.{length, take, length-take}
+use mathlib.Core.Path.{_≡_, sym, _∙_}
+use lib.ListN.{take}
 use Rattle.blocks.specs.Blocks.{content}
 use Rattle.automaton.specs.File.{WithinLimits, parsed}
 use Rattle.automaton.specs.declared.file.Parsed.{Parsed}
-use Rattle.automaton.proofs.Passed.{file-read, contents-are}
+use Rattle.automaton.proofs.Passed.{file-read, contents-are, contents-fit}
 use Rattle.transitions.specs.Transitions.{automatonOf}
 use Rattle.overloops.specs.Ready.{Ready}
 use Rattle.overloops.proofs.Laws.{prepared-ready}
@@ -49,9 +48,7 @@ content-length-requires : tie.Need-content-length-requires
 content-length-requires c κs = search needs
 
 array-share-prefix-contents : tie.Need-array-share-prefix-contents
-array-share-prefix-contents c =
-    let n = c .before .content-length .result in
-    omega (arith, length-take n (c .before .before .before .before .before .before .before .before .prepare .last .1 .0), ap length (content-is (c .before)), c .before .content-length .ensures)
+array-share-prefix-contents c = contents-fit _ _ _ (c .before .content-length .ensures) (content-is (c .before))
 
 slice-aggregate-put-read : tie.Need-slice-aggregate-put-read
 slice-aggregate-put-read c = rw (content-is (c .before .before)) (c .before .before .content-length .ensures)

@@ -1,13 +1,12 @@
 -- `reporting::report_file` meets its contract: by what reading says.
 -- Assumes nothing.
 use borrow.Author.Needs.{needs}
-use native.Mathlib.Omega.{arith}
-use mathlib.Core.Path.{_≡_, refl, sym, ap, _∙_}
-use lib.ListN.{length, take, length-take}
+use mathlib.Core.Path.{_≡_, refl, sym, _∙_}
+use lib.ListN.{take}
 use Rattle.blocks.specs.Blocks.{content}
 use Rattle.automaton.specs.File.{WithinLimits, parsed}
 use Rattle.automaton.specs.declared.file.Parsed.{Parsed}
-use Rattle.automaton.proofs.Passed.{file-read, contents-are}
+use Rattle.automaton.proofs.Passed.{file-read, contents-are, contents-fit}
 use Rattle.transitions.specs.Transitions.{automatonOf}
 use Rattle.overloops.specs.Ready.{Ready}
 use Rattle.overloops.proofs.Laws.{prepared-ready}
@@ -45,8 +44,7 @@ content-length-requires : tie.Need-content-length-requires
 content-length-requires c κs = search needs
 
 array-share-prefix-contents : tie.Need-array-share-prefix-contents
-array-share-prefix-contents c =
-    omega (arith, length-take (c .content-length .result) (c .before .before .before .before .prepare .last .1 .0), ap length (content-is c), c .content-length .ensures)
+array-share-prefix-contents c = contents-fit _ _ _ (c .content-length .ensures) (content-is c)
 
 slice-aggregate-print-head : tie.Need-slice-aggregate-print-head
 slice-aggregate-print-head c = rw (content-is (c .before)) (c .before .content-length .ensures)

@@ -2,7 +2,7 @@
 -- Assumes nothing.
 use borrow.Author.Needs.{needs}
 use mathlib.Core.Path.{ap, _∙_}
-use Rattle.witness.specs.Written.{Outcome}
+use Rattle.witness.specs.Written.{Filled}
 use Rattle.numbering.specs.Numbers.{writtenNumber, writtenTold}
 use Rattle.engine.proofs.numbers.engine_witness.Statement.{statement}
 use Rattle.engine.proofs.numbers.engine_witness.Tie as tie
@@ -16,9 +16,9 @@ engine-witness-spec = tie.close (tie.spec
     let answer = c .before .before .before .before .witness in
     let e = answer .ensures .0 in (
       (
-        c .put-written .ensures .0 ∙ ap (λ (o : Outcome). writtenNumber (o .answer)) e,
-        c .put-written .ensures .1 ∙ ap (λ (o : Outcome). writtenTold (o .answer)) e,
-        ap (λ (o : Outcome). o .out) e,
+        c .put-written .ensures .0 ∙ ap (λ (o : Filled). writtenNumber (o .answer)) e,
+        c .put-written .ensures .1 ∙ ap (λ (o : Filled). writtenTold (o .answer)) e,
+        ap (λ (o : Filled). o .out) e,
       ),
       (answer .result, c .put-written .ensures .0, c .put-written .ensures .1, answer .ensures .1),
     )))

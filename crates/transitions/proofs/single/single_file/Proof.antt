@@ -1,13 +1,12 @@
 -- `transitions::single::single_file` meets its contract: by what reading says, and the contents that it lent.
 -- Assumes nothing.
 use borrow.Author.Needs.{needs}
-use native.Mathlib.Omega.{arith}
-use mathlib.Core.Path.{_≡_, sym, ap, _∙_}
-use lib.ListN.{length, take, length-take}
+use mathlib.Core.Path.{_≡_, sym, _∙_}
+use lib.ListN.{take}
 use Rattle.blocks.specs.Blocks.{content}
 use Rattle.automaton.specs.File.{parsed}
 use Rattle.automaton.specs.declared.file.Parsed.{Parsed}
-use Rattle.automaton.proofs.Passed.{file-read, contents-are}
+use Rattle.automaton.proofs.Passed.{file-read, contents-are, contents-fit}
 use Rattle.transitions.specs.Single.{singleOf}
 use Rattle.transitions.proofs.single.single_file.Statement.{statement}
 use Rattle.transitions.proofs.single.single_file.Tie as tie
@@ -30,7 +29,7 @@ single-file-spec =
     (λ c. search needs)
     (λ c. search needs)
     (λ c κs. search needs)
-    (λ c. omega (arith, length-take (c .content-length .result) (c .before .before .before .before .parse .last .1 .0), ap length (content-is c), c .content-length .ensures))
+    (λ c. contents-fit _ _ _ (c .content-length .ensures) (content-is c))
     (λ c. rw (content-is (c .before)) (c .before .content-length .ensures))
     (λ c κs. rw (content-is (c .before)) (file-read _ _ (read-is (c .before .before)) .laid-out .rules))
     (λ c. rw (sym (c .before .before .before .parse .ensures .0) ∙ c .before .refusal .given .1))

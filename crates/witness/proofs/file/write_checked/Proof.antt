@@ -1,7 +1,7 @@
 -- `witness::file::write_checked` meets its contract.
 -- Assumes nothing.
 use Rattle.witness.proofs.Space.{space-passed, told}
-use Rattle.witness.specs.Written.{planFile, spaceCheck, writtenFor}
+use Rattle.witness.specs.Written.{planFile, spaceCheck, witnessFor}
 use Rattle.witness.proofs.Passed.{plan-passed, sound}
 use Rattle.witness.specs.Plan.{planCheck}
 use Rattle.witness.specs.Sound.{Sound}
@@ -22,14 +22,14 @@ sound-is : (c : tie.After-enum-told) → Sound (c .before .before .before .befor
 sound-is c = sound _ _ (plan-passed _ _ (plan-is c))
 
 returns : tie.Need-returns
-unfolding writtenFor
+unfolding witnessFor
 returns c = rw (sym (c .before .before .before .plan-check .ensures) ∙ c .before .refusal .given .1)
 
 space-check-requires : tie.Need-space-check-requires
 space-check-requires c κs = sound-is c
 
 returns-2 : tie.Need-returns-2
-unfolding writtenFor
+unfolding witnessFor
 returns-2 c = rw (plan-is (c .before .before .before .before), sym (c .before .before .before .space-check .ensures) ∙ c .before .refusal2 .given .1)
 
 put-tree-requires : tie.Need-put-tree-requires
@@ -38,7 +38,7 @@ put-tree-requires c κs =
     (sound-is (c .before .before .before .before), r .0, r .1)
 
 returns-3 : tie.Need-returns-3
-unfolding writtenFor
+unfolding witnessFor
 returns-3 c =
     let e = c .before .before .put-tree .ensures in
     let a = c .before .before .before .before .before .before .before .before .before .before .before .before .args in
