@@ -94,12 +94,9 @@ def places(p): return (0, 1, 2) if p == 3 else (p,)
 
 
 def single(rules):
-    seen = set()
-    for a, s, place, move, t in rules:
-        for p in places(place):
-            if (a, s, p) in seen: return False
-        seen |= {(a, s, p) for p in places(place)}
-    return True
+    """Document 02, W2: of the rules with place 3 spread, equal ones taken once, no two have one symbol, state and place."""
+    spread = {(a, s, p, move, t) for a, s, place, move, t in rules for p in places(place)}
+    return len({rule[:3] for rule in spread}) == len(spread)
 
 
 def answer(w, t):
@@ -255,12 +252,58 @@ case('letter: 5 before 6', good, blocks(changed(letter([9, 9]), (1, 1)), 2), no(
 case('letter: 6 before 10', good, blocks(changed(letter([9, 9]), (1, 1))), no(6, 1, 1))
 case('letter: 10 before 11', good, blocks(letter([0, 0, 9])), no(10, 1, 2))
 case('letter: 11 before 12', good, blocks(letter(left(65) + [0])), no(11, 1, 131))
-# single
-case('equal records meet', blocks(walker(2, 3, A + [A[0]])))
-case('place 3 meets place 1', blocks(walker(2, 3, [(1, 0, 3, 0, 1), (1, 0, 1, 1, 0)])))
+# single, and W2
+
+
+def one(yes, count, steps): return ' single=%s' % ('yes' if yes else 'no'), ' rules=%d ' % count, ' transitions=%d' % steps
+
+
+def single_case(label, rules, yes, steps, n=2, m=3, branch=4):
+    """A walker's rules, whether it is single, and how many rules are left once place 3 is spread and repeats are dropped."""
+    w = blocks(walker(n, m, rules, 1, 2, branch))
+    got = answer(w, None)
+    assert all(part in got + ' ' for part in one(yes, len(rules), steps)), (label, got)
+    case(label, w)
+
+
+single_case('a record twice', A + [A[0]], True, 4)
+single_case('a record twice, not side by side', [A[2]] + A, True, 4)
+single_case('each record twice', A + A, True, 4)
+single_case('a record 512 times', [A[0]] * 512, True, 1)
+single_case('a record 511 times and another rule for its place', [A[0]] * 511 + [(2, 0, 0, 2, 0)], False, 2)
+single_case('another rule for its place and a record 511 times', [(2, 0, 0, 3, 1)] + [A[0]] * 511, False, 2)
+STAY = (1, 0, 3, 0, 1)
+for place in (0, 1, 2): single_case('place 3 beside its own copy at %d' % place, [STAY, (1, 0, place, 0, 1)], True, 3)
+single_case('a copy at 2 before its place 3', [(1, 0, 2, 0, 1), STAY], True, 3)
+single_case('place 3 beside all its copies', [STAY] + [(1, 0, place, 0, 1) for place in (0, 1, 2)], True, 3)
+single_case('all copies and no place 3', [(1, 0, place, 0, 1) for place in (2, 0, 1)], True, 3)
+single_case('place 3 twice', [STAY, STAY], True, 3)
+single_case('place 3 twice, down', [(2, 0, 3, 2, 0), A[3], (2, 0, 3, 2, 0)], True, 4)
+single_case('place 3 twice with another move', [(2, 0, 3, 2, 0), (2, 0, 3, 3, 0)], False, 6)
+single_case('place 3 twice with another next state', [(2, 0, 3, 2, 0), (2, 0, 3, 2, 1)], False, 6)
+for name, other in (('move', (2, 0, 1, 0, 1)), ('next state', (2, 0, 1, 1, 0)), ('move and next state', (2, 0, 1, 3, 0))):
+    single_case('one symbol, state and place, another %s' % name, [(2, 0, 1, 1, 1), other], False, 2)
+    single_case('the same, and each twice: %s' % name, [(2, 0, 1, 1, 1), other, other, (2, 0, 1, 1, 1)], False, 2)
+for name, other in (('symbol', (1, 0, 1, 1, 1)), ('state', (2, 1, 1, 1, 1)), ('place', (2, 0, 2, 1, 1))):
+    single_case('another %s alone' % name, [(2, 0, 1, 1, 1), other], True, 2)
+for place in (0, 1, 2):
+    single_case('meeting through place 3 at %d, another next state' % place, [STAY, (1, 0, place, 0, 0)], False, 4)
+case('place 3 meets place 1', blocks(walker(2, 3, [(1, 0, 3, 0, 1), (1, 0, 1, 1, 0)])), None,
+     ' states=2 symbols=3 rules=2 initial=1 final=2 branches=4 single=no transitions=4')
+single_case('meeting through place 3, and a copy too', [STAY, (1, 0, 1, 0, 1), (1, 0, 1, 1, 1)], False, 4)
 case('place 1 beside place 2', blocks(walker(2, 3, [(1, 0, 1, 0, 1), (1, 0, 2, 0, 1)])))
 case('two rules for one symbol, state and place', blocks(walker(2, 3, [(1, 0, 1, 0, 1), (2, 0, 1, 0, 1), (1, 0, 1, 1, 1)])))
 case('place 3 beside another state', blocks(walker(2, 3, [(1, 0, 3, 0, 1), (1, 1, 3, 0, 1)])))
+# the ends of the compiled table: symbol 31, state 23, place 2, move 3, next state 23
+LAST, EVERY = (31, 23, 2, 3, 23), 2 ** 32 - 1
+many = [(a, s, 2, 3, 23) for a in range(31, 9, -1) for s in range(24)][:511]
+single_case('the last rule twice', [LAST, LAST], True, 1, 24, 32, EVERY)
+single_case('the last rule and another next state', [LAST, (31, 23, 2, 3, 22)], False, 2, 24, 32, EVERY)
+single_case('the last rule and another move', [(31, 23, 2, 2, 23), LAST], False, 2, 24, 32, EVERY)
+single_case('the last rule by place 3', [(31, 23, 3, 3, 23), LAST], True, 3, 24, 32, EVERY)
+single_case('512 records, no two alike', many + [(0, 0, 0, 0, 0)], True, 512, 24, 32, EVERY)
+single_case('512 records, the last a repeat', many + [many[0]], True, 511, 24, 32, EVERY)
+single_case('512 records, the last another rule for one place', many + [(31, 0, 2, 3, 0)], False, 512, 24, 32, EVERY)
 # chance
 for i in range(60):
     p = bytearray(a) + bytearray(8)

@@ -102,7 +102,8 @@ class Walker:
         self.file = walker(n, m, start, final, branch, rules)
 
     def is_single(self):
-        return all(len(steps) == 1 for steps in self.steps.values())
+        """Document 02, W2: a rule met twice is one rule."""
+        return all(len(set(steps)) == 1 for steps in self.steps.values())
 
 
 class Tree:
@@ -326,6 +327,15 @@ LARGER = [
     computed('refusal 6 between accepted letters', THE_EXAMPLE,
              [ACCEPTED, misfilled(ACCEPTED, 1), ACCEPTED, misfilled(ACCEPTED, 507), low(505, 1), misfilled(low(505, 1), 1015), ACCEPTED, OTHER], [documents(4, 1, 3, 80)]),
     computed('eleven hundred letters', THE_EXAMPLE, THOUSAND, [documents(1021, 64, 15, 94)]),
+    # document 02, W2: `rules=` is the number of records, and a repeat changes nothing else
+    computed('each record twice', Walker(2, 3, 1, 2, 4, A + A), [ACCEPTED, OTHER],
+             ['walker states=2 symbols=3 rules=8 single=yes', *HEAD[1:], documents(1, 1, 0, 50)]),
+    computed('place 3 beside its own copies', Walker(2, 3, 1, 2, 4, [(2, 0, 3, 3, 0)] + A), [ACCEPTED, OTHER, [2, 2, 0, 1, 0]],
+             ['walker states=2 symbols=3 rules=5 single=yes', *HEAD[1:]]),
+    computed('512 records of four rules', Walker(2, 3, 1, 2, 4, A * 128), [ACCEPTED, OTHER],
+             ['walker states=2 symbols=3 rules=512 single=yes', *HEAD[1:], documents(1, 1, 0, 50)]),
+    computed('repeats beside rules that meet', Walker(2, 3, 1, 2, 4, A + A + [(1, 0, 3, 0, 0)]), [ACCEPTED],
+             ['walker states=2 symbols=3 rules=9 single=no', *HEAD[1:], documents(1, 0, 0, 100)]),
 ]
 
 

@@ -17,7 +17,7 @@ use Rattle.refusal.specs.declared.Check.the-variants.{Passed, Refused}
 use Rattle.refusal.specs.declared.Fault.{Fault}
 use Rattle.refusal.proofs.Passed.{clash, both-passed, if-passed, and-is-true, each-passed, FileSize, file-passed, count-passed, size-passed}
 use Rattle.automaton.specs.Rules.{rule, sorted, knownIf, ruleAt, sortPlace, sortMove, misplaced, ruleRefusal, ruleCheck}
-use Rattle.automaton.specs.File.{format, payload, countsCheck, layoutCheck, LaidOut, setsCheck, rulesCheck, bodyCheck, headerOf, readOf, parsed, contentsAfter}
+use Rattle.automaton.specs.File.{format, payload, countsCheck, layoutCheck, LaidOut, WithinLimits, setsCheck, rulesCheck, bodyCheck, headerOf, readOf, parsed, contentsAfter}
 use Rattle.automaton.specs.declared.Header.{Header}
 use Rattle.automaton.specs.declared.Rule.{Rule}
 use Rattle.automaton.specs.declared.file.Parsed.{Parsed}
@@ -117,6 +117,9 @@ file-read s h e =
       sets = last .0;
       rules = λ i l. rule-passed g p i (each-passed (ruleCheck g p) 0 (g .rules) (last .1) i (omega arith) (omega arith));
     })
+
+pub file-limits : (s : List ℕ) (h : Header) → parsed s ≡ Parsed.Read h → WithinLimits h
+file-limits s h e = let read = file-read s h e in (read .laid-out .states, read .laid-out .symbols)
 
 -- what a buffer has at its front that was lent to the reader of a file that reads
 pub contents-are : (s before after : List ℕ) (r : Parsed) (h : Header) (n : ℕ) → r ≡ Parsed.Read h → after ≡ contentsAfter r s before

@@ -13,9 +13,6 @@ use borrow.Author.Tests.{lt-ltb, eqb-true, not-false}
 use Rattle.blocks.specs.Blocks.{content}
 use Rattle.blocks.specs.FileOf.{fileOf, wordBytes}
 use Rattle.blocks.proofs.Written.{word-bytes, file-content-at}
-use Rattle.model.specs.declared.Side.{Side}
-use Rattle.model.specs.declared.Place.{Place}
-use Rattle.model.specs.declared.Move.{Move}
 use Rattle.refusal.specs.Checks.{_andThen_, refuseIf}
 use Rattle.refusal.specs.Lines.{kindCheck, countCheck}
 use Rattle.refusal.specs.declared.Check.the-variants.{Passed}
@@ -28,28 +25,12 @@ use Rattle.automaton.specs.Payload.{placeByte, moveByte, recordsOf, payloadOf}
 use Rattle.automaton.specs.Rules.{sortPlace, sortMove, sorted, knownIf, ruleAt, ruleCheck}
 use Rattle.automaton.specs.declared.Header.{Header}
 use Rattle.automaton.specs.declared.Rule.{Rule}
-use Rattle.automaton.specs.declared.Scope.{Scope}
-use Rattle.automaton.specs.declared.rules.PlaceByte.{PlaceByte}
-use Rattle.automaton.specs.declared.rules.MoveByte.{MoveByte}
 use Rattle.automaton.specs.declared.rules.RuleBytes.{RuleBytes}
+use Rattle.automaton.proofs.Bytes.{sort-place, sort-move}
 use Rattle.automaton_writer.proofs.Bytes.{payload-length, record-byte}
 use Rattle.automaton_writer.specs.ReadsBack.{Fits, FitsEach, Passing, ReadsBack}
 
 -- ---- the bytes of rules
-
-sort-place : (s : Scope) → sortPlace (placeByte s) ≡ PlaceByte.Known s
-unfolding sortPlace
-sort-place (Scope.Only Place.Root) = refl
-sort-place (Scope.Only (Place.Child Side.Left)) = refl
-sort-place (Scope.Only (Place.Child Side.Right)) = refl
-sort-place Scope.Every = refl
-
-sort-move : (m : Move) → sortMove (moveByte m) ≡ MoveByte.Known m
-unfolding sortMove
-sort-move Move.Stay = refl
-sort-move Move.Up = refl
-sort-move (Move.Down Side.Left) = refl
-sort-move (Move.Down Side.Right) = refl
 
 pub records-length : (rs : List Rule) → length (recordsOf rs) ≡ 5 * length rs
 unfolding recordsOf

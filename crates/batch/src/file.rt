@@ -11,10 +11,9 @@ ghost use Rattle.batch.specs.Batch.{talliedOf};
 pub fn tally(automaton: &[u8], trees: &[u8], before: Tally) -> Tallied
     ensures { λ r. ⌜ r ≡ talliedOf (now (automaton .entry)) (now (trees .entry)) before ⌝ }
 {
-    let mut contents = [0u8; 3048];
     let mut table = [0u32; 9216];
     let mut leaves = [0u32; 1536];
-    match overloops::prepare(automaton, &mut contents, &mut table, &mut leaves) {
+    match overloops::prepare(automaton, &mut table, &mut leaves) {
         Parsed::Refused(refusal) => Tallied {
             tally: before,
             check: Check::Refused(refusal),

@@ -72,9 +72,8 @@ fn print_tree(file: &[u8], header: Header) {
 
 // One case: the tree's file is read where there is one and the automaton's file reads.
 fn print_case(automaton: &[u8], tree: &[u8], with_tree: bool) {
-    let mut contents = [0u8; 3048];
     let mut table = [0u32; 9216];
-    match transitions::load(automaton, &mut contents, &mut table) {
+    match transitions::load(automaton, &mut table) {
         Parsed::Refused(refusal) => print_refusal(refusal),
         Parsed::Read(header) => {
             if with_tree {

@@ -82,10 +82,9 @@ pub fn survey(file: &[u8], plan: &mut [u8]) -> Survey
     ensures equals { λ r. ⌜ answered r (now (plan .exit)) ≡ surveyed (now (file .entry)) (now (plan .entry)) ⌝ }
     ensures right { λ r. ⌜ Demand3 (now (file .entry)) (now (plan .entry)) (answered r (now (plan .exit))) ⌝ }
 {
-    let mut contents = [0u8; 3048];
     let mut table = [0u32; 9216];
     let mut leaves = [0u32; 1536];
-    match overloops::prepare(file, &mut contents, &mut table, &mut leaves) {
+    match overloops::prepare(file, &mut table, &mut leaves) {
         Parsed::Refused(refusal) => Survey::Refused(refusal),
         Parsed::Read(header) => survey_prepared(header, &table, &leaves, plan),
     }
@@ -108,10 +107,9 @@ pub fn quick(file: &[u8]) -> Quick
     ensures equals { λ r. ⌜ r ≡ checked (now (file .entry)) ⌝ }
     ensures right { λ r. ⌜ Demand3Quick (now (file .entry)) r ⌝ }
 {
-    let mut contents = [0u8; 3048];
     let mut table = [0u32; 9216];
     let mut leaves = [0u32; 1536];
-    match overloops::prepare(file, &mut contents, &mut table, &mut leaves) {
+    match overloops::prepare(file, &mut table, &mut leaves) {
         Parsed::Refused(refusal) => Quick::Refused(refusal),
         Parsed::Read(header) => quick_prepared(header, &table, &leaves),
     }

@@ -166,10 +166,9 @@ pub fn judge(automaton: &[u8], tree: &[u8]) -> Answer
     ensures equals { λ r. ⌜ r ≡ judged (now (automaton .entry)) (now (tree .entry)) ⌝ }
     ensures right { λ r. ⌜ Demand2 (now (automaton .entry)) (now (tree .entry)) r ⌝ }
 {
-    let mut contents = [0u8; 3048];
     let mut table = [0u32; 9216];
     let mut leaves = [0u32; 1536];
-    match overloops::prepare(automaton, &mut contents, &mut table, &mut leaves) {
+    match overloops::prepare(automaton, &mut table, &mut leaves) {
         Parsed::Refused(refusal) => Answer::Refused(refusal),
         Parsed::Read(header) => judge_file(header, &table, &leaves, tree),
     }

@@ -17,13 +17,11 @@ use Rattle.algorithms.specs.Automaton.{Automaton, Proper, ranked, alphabetOf}
 use Rattle.algorithms.specs.Overloops.{acceptedBy, moves, nodeSimple, nodeLoops, upClosure, leafOverloops, nodeOverloops}
 use Rattle.algorithms.proofs.OverloopLaws.{row-moves, leaf-as-node, within-leafOverloops}
 use Rattle.blocks.specs.Blocks.{content}
-use Rattle.refusal.specs.declared.Refusal.{Refusal}
 use Rattle.automaton.specs.File.{WithinLimits, parsed}
 use Rattle.automaton.specs.declared.Header.{Header}
 use Rattle.automaton.specs.declared.file.Parsed.{Parsed}
-use Rattle.automaton.proofs.Passed.{file-read}
 use Rattle.transitions.specs.Transitions.{automatonOf}
-use Rattle.transitions.specs.Compiled.{cellOf, Compiled, Loaded}
+use Rattle.transitions.specs.Compiled.{cellOf, Compiled}
 use Rattle.transitions.proofs.Laws.{place-small, move-small}
 use Rattle.transitions.proofs.Meaning.{file-proper}
 use Rattle.overloops.specs.Ready.{Headed, Ready, PreparedAfter}
@@ -135,13 +133,7 @@ module _ (A : Automaton) (n : ℕ) (t t₁ t₂ : List ℕ) where
           let k : leafCell σ s + p < leafCell n Side.Left = omega (arith, side-small s) in
           right .outside (leafCell σ s + p) (inl (omega arith)) ∙ left .outside (leafCell σ s + p) (inl k) ∙ old .rows σ s p (omega arith) h
 
--- ---- what loading and preparing leave, by the answer
-
-pub loaded-read : (r : Parsed) (h : Header) (s before after : List ℕ) → r ≡ Parsed.Read h → Loaded r s before after → Compiled (automatonOf h (content s)) after
-loaded-read r h s before after e l = rw e at l
-
-pub loaded-refused : (r : Parsed) (x : Refusal) (s before after : List ℕ) → r ≡ Parsed.Refused x → Loaded r s before after → after ≡ before
-loaded-refused r x s before after e l = rw e at l
+-- ---- what preparing leaves, by the answer
 
 -- the automaton of a file that reads is that of its header and of the table compiled from it
 pub file-headed : (s : List ℕ) (h : Header) (t : List ℕ) → parsed s ≡ Parsed.Read h → Compiled (automatonOf h (content s)) t
@@ -154,9 +146,6 @@ file-headed s h t e c =
       initial = refl;
       accepting = refl;
     }
-
-pub file-limits : (s : List ℕ) (h : Header) → parsed s ≡ Parsed.Read h → WithinLimits h
-file-limits s h e = let read = file-read s h e in (read .laid-out .states, read .laid-out .symbols)
 
 pub prepared-ready : (r : Parsed) (h : Header) (s t l t′ l′ : List ℕ) → r ≡ Parsed.Read h → PreparedAfter r s t l t′ l′
     → WithinLimits h × Ready (automatonOf h (content s)) h t′ l′

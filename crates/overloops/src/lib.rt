@@ -1,5 +1,4 @@
 // The overloops of nodes, formed from the compiled transitions. One function forms the loops of a node, and everything else goes through it.
-use automaton::Contents;
 use automaton::file::Parsed;
 use model::Move;
 use model::Place;
@@ -14,7 +13,7 @@ ghost use lib.ListN.{length, take, drop};
 ghost use Rattle.algorithms.specs.Automaton.{Automaton, Proper};
 ghost use Rattle.algorithms.specs.Overloops as spec;
 ghost use Rattle.transitions.specs.Compiled.{Compiled};
-ghost use Rattle.automaton.specs.File.{parsed, contentsAfter};
+ghost use Rattle.automaton.specs.File.{parsed};
 ghost use Rattle.overloops.specs.Tables.{Tabled, sideNumber, leafCell, Leaves, Put};
 ghost use Rattle.overloops.specs.Ready.{PreparedAfter};
 
@@ -212,18 +211,12 @@ fn fill_leaves(table: &TransitionTable, states: usize, leaves: &mut [u32])
     }
 }
 
-// Reads an automaton's file and prepares its tables; its joined contents go to the front of the buffer. A refused file leaves all three as they
-// were.
-pub fn prepare(
-    file: &[u8],
-    contents: &mut Contents,
-    table: &mut TransitionTable,
-    leaves: &mut LeafTable,
-) -> Parsed
-    ensures { λ r. ⌜ (r ≡ parsed (now (file .entry))) × (now (contents .exit) ≡ contentsAfter r (now (file .entry)) (now (contents .entry)))
+// Reads an automaton's file and prepares its tables. A refused file leaves both as they were.
+pub fn prepare(file: &[u8], table: &mut TransitionTable, leaves: &mut LeafTable) -> Parsed
+    ensures { λ r. ⌜ (r ≡ parsed (now (file .entry)))
         × PreparedAfter r (now (file .entry)) (now (table .entry)) (now (leaves .entry)) (now (table .exit)) (now (leaves .exit)) ⌝ }
 {
-    match transitions::load(file, contents, table) {
+    match transitions::load(file, table) {
         Parsed::Refused(refusal) => Parsed::Refused(refusal),
         Parsed::Read(header) => {
             fill_leaves(table, header.states as usize, leaves);

@@ -1,13 +1,14 @@
--- The number of pairs: a relation inside another has no more, closing takes none away, and over n states there are at most n * n.
--- Assumes nothing.
+-- The number of pairs: a relation inside another has no more, closing takes none away, over n states there are at most n * n; and which
+-- relations have at most one. Assumes nothing.
 use Prim.Native.Nat.{ℕ, zero, suc, _+_, _*_, _/_, _%_, _<_, _≤_}
 use native.Mathlib.Nat.{suc-mul}
-use native.Mathlib.Decide.{decLt}
+use native.Mathlib.Decide.{decLt, ℕ-discrete}
 use native.Mathlib.Omega.{arith}
-use mathlib.Core.Path.{_≡_, sym, _∙_}
+use mathlib.Core.Path.{_≡_, refl, sym, ap, _∙_}
+use mathlib.Core.Logic.{_⊎_, inl, inr, _↔_}
 use mathlib.Core.List.{List, [], _∷_}
 use Rattle.relation.specs.Bit.{bit}
-use Rattle.relation.proofs.BitLaws.{bit-low, bit-half}
+use Rattle.relation.proofs.BitLaws.{bit-zero, bit-low, bit-half, some-bit}
 use Rattle.relation.specs.Chain.{stop, step, Within}
 use Rattle.relation.proofs.ChainLaws.{has-closed}
 use Rattle.relation.specs.Rows.{has, closed, bitsOf, countOf}
@@ -65,3 +66,81 @@ rows-few (suc m) n (row ∷ rows) h =
 
 pub count-within : (n : ℕ) (R : List ℕ) → Within n R → countOf R ≤ n * n
 count-within n R w = rows-few n n R (w .inside)
+
+-- ---- at most one pair
+
+bits-some : (d x q : ℕ) → q < d → bit x q ≡ 1 → 1 ≤ bitsOf d x
+bits-some zero x q l e = absurd (omega arith)
+bits-some (suc d) x zero l e = omega (arith, bit-low x)
+bits-some (suc d) x (suc q) l e = omega (arith, bits-some d (x / 2) q (omega arith) (bit-half x q ∙ e))
+
+-- two members of a set that counts one are the same
+bits-same : (d x p q : ℕ) → bitsOf d x ≤ 1 → p < d → q < d → bit x p ≡ 1 → bit x q ≡ 1 → p ≡ q
+bits-same zero x p q n l m e f = absurd (omega arith)
+bits-same (suc d) x zero zero n l m e f = refl
+bits-same (suc d) x zero (suc q) n l m e f =
+    absurd (omega (arith, bit-low x, bits-some d (x / 2) q (omega arith) (bit-half x q ∙ f)))
+bits-same (suc d) x (suc p) zero n l m e f =
+    absurd (omega (arith, bit-low x, bits-some d (x / 2) p (omega arith) (bit-half x p ∙ e)))
+bits-same (suc d) x (suc p) (suc q) n l m e f =
+    ap suc (bits-same d (x / 2) p q (omega arith) (omega arith) (omega arith) (bit-half x p ∙ e) (bit-half x q ∙ f))
+
+-- a set of which all members are the same counts one at the most
+bits-one : (d x : ℕ) → ((p q : ℕ) → bit x p ≡ 1 → bit x q ≡ 1 → p ≡ q) → bitsOf d x ≤ 1
+bits-one zero x h = omega arith
+bits-one (suc d) x h = low (decLt (x % 2) 1) (bits-one d (x / 2) (λ p q e f. omega (arith, h (suc p) (suc q) (sym (bit-half x p) ∙ e) (sym (bit-half x q) ∙ f))))
+  where
+    low : Dec (x % 2 < 1) → bitsOf d (x / 2) ≤ 1 → x % 2 + bitsOf d (x / 2) ≤ 1
+    low (yes off) n = omega arith
+    low (no on) n =
+        let zeroth : bit x 0 ≡ 1 = omega (arith, bit-low x) in
+        omega (arith, bits-few d 0 (x / 2) (λ q e. absurd (omega (arith, h 0 (suc q) zeroth (sym (bit-half x q) ∙ e)))))
+
+-- all pairs of a relation are the same
+abbrev pub OnePair : List ℕ → Type 0
+OnePair rows = (p q p′ q′ : ℕ) → has rows p q → has rows p′ q′ → (p ≡ p′) × (q ≡ q′)
+
+-- its rows are sets of numbers below 32
+abbrev pub Words : List ℕ → Type 0
+Words rows = (p q : ℕ) → has rows p q → q < 32
+
+-- two counts that make one at the most
+few-of : (a b : ℕ) → a + b ≤ 1 → (a ≤ 1) × (b ≤ 1) × (1 ≤ a → 1 ≤ b → ⊥)
+few-of a b n = (omega arith, omega arith, λ h k. omega arith)
+
+some-of : (a b : ℕ) → (1 ≤ a) ⊎ (1 ≤ b) → 1 ≤ a + b
+some-of a b (inl h) = omega arith
+some-of a b (inr h) = omega arith
+
+count-some : (rows : List ℕ) → Words rows → (p q : ℕ) → has rows p q → 1 ≤ countOf rows
+count-some [] w p q h = absurd (omega (arith, bit-zero q))
+count-some (row ∷ rows) w zero q h = some-of (bitsOf 32 row) (countOf rows) (inl (bits-some 32 row q (w 0 q h) h))
+count-some (row ∷ rows) w (suc p) q h = some-of (bitsOf 32 row) (countOf rows) (inr (count-some rows (λ i j. w (suc i) j) p q h))
+
+of-count : (rows : List ℕ) → Words rows → countOf rows ≤ 1 → OnePair rows
+of-count [] w n p q p′ q′ h k = absurd (omega (arith, bit-zero q))
+of-count (row ∷ rows) w n zero q zero q′ h k = (refl, bits-same 32 row q q′ (few-of (bitsOf 32 row) (countOf rows) n .0) (w 0 q h) (w 0 q′ k) h k)
+of-count (row ∷ rows) w n zero q (suc p′) q′ h k =
+    absurd (few-of (bitsOf 32 row) (countOf rows) n .2 (bits-some 32 row q (w 0 q h) h) (count-some rows (λ i j. w (suc i) j) p′ q′ k))
+of-count (row ∷ rows) w n (suc p) q zero q′ h k =
+    absurd (few-of (bitsOf 32 row) (countOf rows) n .2 (bits-some 32 row q′ (w 0 q′ k) k) (count-some rows (λ i j. w (suc i) j) p q h))
+of-count (row ∷ rows) w n (suc p) q (suc p′) q′ h k =
+    let same = of-count rows (λ i j. w (suc i) j) (few-of (bitsOf 32 row) (countOf rows) n .1) p q p′ q′ h k in
+    (ap suc (same .0), same .1)
+
+to-count : (rows : List ℕ) → OnePair rows → countOf rows ≤ 1
+to-count [] one = omega arith
+to-count (row ∷ rows) one = by (ℕ-discrete row 0) (to-count rows (λ p q p′ q′ h k. let same = one (suc p) q (suc p′) q′ h k in (suc-inj (same .0), same .1)))
+  where
+    suc-inj : {a b : ℕ} → suc a ≡ suc b → a ≡ b
+    suc-inj e = omega arith
+
+    by : Dec (row ≡ 0) → countOf rows ≤ 1 → bitsOf 32 row + countOf rows ≤ 1
+    by (yes none) n =
+        add-up (bits-few 32 0 row (λ q e. absurd (omega (arith, ap (λ (x : ℕ). bit x q) none, bit-zero q)))) n refl
+    by (no some) n =
+        let b = some-bit row some in
+        add-up (bits-one 32 row (λ p q e f. one 0 p 0 q e f .1)) (rows-few 0 0 rows (λ p q h. absurd (omega (arith, one 0 (b .0) (suc p) q (b .1) h .0)))) refl
+
+pub count-one : (rows : List ℕ) → Words rows → (countOf rows ≤ 1) ↔ OnePair rows
+count-one rows w = (of-count rows w, to-count rows)

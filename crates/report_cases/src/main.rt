@@ -3,7 +3,7 @@
 use reporting::Descriptor;
 ghost use Prim.Native.Nat.{_<_};
 
-const CASES: u8 = 39;
+const CASES: u8 = 43;
 
 fn report_case(number: u8)
     requires { ⌜ number < 100 ⌝ }

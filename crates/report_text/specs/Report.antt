@@ -7,6 +7,7 @@ use Rattle.algorithms.specs.Saturate.{saturationOf}
 use Rattle.automaton.specs.File.{readAutomaton}
 use Rattle.automaton.specs.declared.Header.{Header}
 use Rattle.transitions.specs.Transitions.{automatonOf}
+use Rattle.transitions.specs.Spread.{spreadRules}
 use Rattle.transitions.specs.Single.{single, singleIf}
 use Rattle.transitions.specs.declared.single.Singleness.{Singleness}
 use Rattle.emptiness.specs.Surveyed.{surveyOf}
@@ -20,7 +21,7 @@ use Rattle.wording.specs.ReportLines.{refusedLine, headText, tallyLine}
 -- ---- what is told of an automaton's file that reads with the header h and the joined contents p
 
 abbrev pub singleTold : Header → (p : List ℕ) → Singleness
-singleTold h p = singleIf (single h p)
+singleTold h p = singleIf (single (spreadRules h p))
 
 abbrev pub quickTold : Header → (p : List ℕ) → Quick
 quickTold h p = checkedBy (automatonOf h p)

@@ -4,9 +4,10 @@ use automaton::file::Parsed;
 use overloops::LeafTable;
 use tally::Tally;
 use transitions::TransitionTable;
-ghost use Prim.Native.Nat.{_≤_};
+ghost use mathlib.Core.List.{List};
+ghost use Prim.Native.Nat.{ℕ, _≤_};
 ghost use lib.ListN.{length};
-ghost use Rattle.automaton.specs.File.{LaidOut};
+ghost use Rattle.automaton.specs.File.{WithinLimits};
 ghost use Rattle.transitions.specs.Transitions.{automatonOf};
 ghost use Rattle.overloops.specs.Ready.{Ready};
 ghost use Rattle.text.specs.Appended.{Appended};
@@ -15,16 +16,15 @@ ghost use Rattle.report_text.specs.Report.{headOf, reportOf};
 // The three lines before the batch, on an automaton that is ready, from the start of the buffer.
 pub fn put_read(
     out: &mut [u8],
-    contents: &[u8],
     header: Header,
     table: &TransitionTable,
     leaves: &LeafTable,
 ) -> usize
-    requires { ⌜ (232 ≤ length (now out)) × LaidOut header (now contents)
-        × Ready (automatonOf header (now contents)) header (now table) (now leaves) ⌝ }
-    ensures { λ r. ⌜ Appended (now (out .entry)) 0 (headOf header (now (contents .entry))) (now (out .exit)) r × (r ≤ 232) ⌝ }
+    requires { ⌜ (232 ≤ length (now out)) × WithinLimits header ⌝ }
+    ensures { λ r. ⌜ ((p : List ℕ) → Ready (automatonOf header p) header (now (table .entry)) (now (leaves .entry))
+        → Appended (now (out .entry)) 0 (headOf header p) (now (out .exit)) r) × (r ≤ 232) ⌝ }
 {
-    let single = transitions::single::single_read(contents, header);
+    let single = transitions::single::single_prepared(header, table);
     let quick = emptiness::file::quick_prepared(header, table, leaves);
     let mut plan = [0u8; 195];
     let survey = emptiness::file::survey_prepared(header, table, leaves, &mut plan);
@@ -35,10 +35,9 @@ pub fn put_read(
 pub fn report_bytes(automaton: &[u8], trees: &[u8], out: &mut [u8; 357]) -> usize
     ensures { λ r. ⌜ Appended (now (out .entry)) 0 (reportOf (now (automaton .entry)) (now (trees .entry))) (now (out .exit)) r ⌝ }
 {
-    let mut contents = [0u8; 3048];
     let mut table = [0u32; 9216];
     let mut leaves = [0u32; 1536];
-    match overloops::prepare(automaton, &mut contents, &mut table, &mut leaves) {
+    match overloops::prepare(automaton, &mut table, &mut leaves) {
         Parsed::Refused(refusal) => wording::put_refused(out, 0, refusal),
         Parsed::Read(header) => {
             let none = Tally {
@@ -47,8 +46,7 @@ pub fn report_bytes(automaton: &[u8], trees: &[u8], out: &mut [u8; 357]) -> usiz
                 refused: 0,
             };
             let tally = batch::tally_all(none, header, &table, &leaves, trees);
-            let len = blocks::content_length(automaton);
-            let end = put_read(out, &contents[..len], header, &table, &leaves);
+            let end = put_read(out, header, &table, &leaves);
             wording::put_tally(out, end, tally)
         }
     }

@@ -14,7 +14,7 @@ ghost use mathlib.Core.List.{List};
 ghost use Prim.Native.Nat.{ℕ, _+_, _-_, _≤_};
 ghost use lib.ListN.{length, take};
 ghost use Rattle.algorithms.specs.Automaton.{Automaton};
-ghost use Rattle.automaton.specs.File.{LaidOut, WithinLimits};
+ghost use Rattle.automaton.specs.File.{WithinLimits};
 ghost use Rattle.transitions.specs.Transitions.{automatonOf};
 ghost use Rattle.overloops.specs.Ready.{Ready};
 ghost use Rattle.batch.specs.Batch.{passes, turnOf, IsFile};
@@ -128,12 +128,12 @@ fn print_refused(refusal: Refusal) -> bool
     print(&out[..end])
 }
 
-fn print_head(contents: &[u8], header: Header, table: &TransitionTable, leaves: &LeafTable) -> bool
-    requires { ⌜ LaidOut header (now contents) × Ready (automatonOf header (now contents)) header (now table) (now leaves) ⌝ }
-    ensures { λ r. ⌜ Handed (headOf header (now (contents .entry))) r ⌝ }
+fn print_head(header: Header, table: &TransitionTable, leaves: &LeafTable) -> bool
+    requires { ⌜ WithinLimits header ⌝ }
+    ensures { λ r. ⌜ ((p : List ℕ) → Ready (automatonOf header p) header (now (table .entry)) (now (leaves .entry)) → Handed (headOf header p) r) ⌝ }
 {
     let mut out = [0u8; 232];
-    let end = report_text::put_read(&mut out, contents, header, table, leaves);
+    let end = report_text::put_read(&mut out, header, table, leaves);
     print(&out[..end])
 }
 
@@ -148,14 +148,12 @@ fn print_tally(tally: Tally) -> bool
 fn report_file(file: &[u8], input: Descriptor) -> bool
     ensures { λ r. ⌜ Reported (now (file .entry)) input r ⌝ }
 {
-    let mut contents = [0u8; 3048];
     let mut table = [0u32; 9216];
     let mut leaves = [0u32; 1536];
-    match overloops::prepare(file, &mut contents, &mut table, &mut leaves) {
+    match overloops::prepare(file, &mut table, &mut leaves) {
         Parsed::Refused(refusal) => print_refused(refusal),
         Parsed::Read(header) => {
-            let len = blocks::content_length(file);
-            let first = print_head(&contents[..len], header, &table, &leaves);
+            let first = print_head(header, &table, &leaves);
             let tally = tally_files(header, &table, &leaves, input);
             let last = print_tally(tally);
             first & last

@@ -1,119 +1,280 @@
--- A single automaton is deterministic (the paper's Definition 19): two transitions at one symbol, state and place come from two records that
--- meet, or from one record.
--- Assumes nothing.
-use Prim.Native.Nat.{ℕ, zero, suc, _+_, _*_, _<_}
-use mathlib.Core.Path.{_≡_, refl, sym, ap, _∙_}
-use mathlib.Core.Logic.{_⊎_, inl, inr}
-use mathlib.Core.Bool.{Bool, true, false, _&&_, _||_}
-use mathlib.Core.List.{List}
-use native.Mathlib.Decide.{decLt}
+-- Single automata, in three ways that are one: no two spread rules for a symbol, a state and a place (`single-has`), the paper's Definition 19
+-- (`single-deterministic`), and what the compiled transitions tell (`single-determined`, `table-determined`). Assumes nothing.
+use Prim.Native.Nat.{ℕ, zero, suc, _+_, _<_, _≤_}
+use mathlib.Core.Path.{_≡_, refl, sym, ap, ap₂, subst, _∙_}
+use mathlib.Core.Logic.{_⊎_, inl, inr, ⊎-elim, _↔_}
+use mathlib.Core.Bool.{Bool, true, false, not, _&&_, _||_}
+use mathlib.Core.List.{List, [], _∷_, List·Memᴰ·head, List·Memᴰ·tail, List·Memᴰ·not-nil, List·Memᴰ·cases-cons}
 use native.Mathlib.Omega.{arith}
-use borrow.Author.Tests.{eq-eqb}
-use lib.Dec.{eqb, ltb}
-use lib.ListN.{getD}
+use borrow.Author.Tests.{eqb-true, eq-eqb, leb-true, le-leb}
+use lib.Count.{ones}
+use lib.Dec.{eqb, leb}
+use Rattle.relation.specs.Rows.{has, bitsOf, countOf}
+use Rattle.relation.proofs.BitLaws.{bit-zero, lt-of-bits}
+use Rattle.relation.proofs.Counts.{Words, count-one}
+use Rattle.relation.proofs.Turns.{ones-bits}
 use Rattle.model.specs.declared.Side.{Side}
 use Rattle.model.specs.declared.Place.{Place}
 use Rattle.model.specs.declared.Move.{Move}
+use Rattle.model.specs.declared.State.{State}
+use Rattle.model.specs.declared.Symbol.{Symbol}
+use Rattle.model.specs.Lists.{_∈_}
 use Rattle.model.specs.Runs.{Deterministic}
-use Rattle.algorithms.specs.Automaton.{Δ}
-use Rattle.refusal.proofs.Passed.{clash}
-use Rattle.automaton.specs.Rules.{rule, sorted, knownIf, ruleAt, sortPlace, sortMove}
+use Rattle.algorithms.specs.Automaton.{Automaton, Δ}
+use Rattle.refusal.proofs.Passed.{and-is-true}
+use Rattle.automaton.specs.Payload.{placeByte, moveByte}
+use Rattle.automaton.specs.Rules.{rule}
 use Rattle.automaton.specs.declared.Header.{Header}
 use Rattle.automaton.specs.declared.Rule.{Rule}
 use Rattle.automaton.specs.declared.Scope.{Scope}
-use Rattle.automaton.specs.declared.rules.PlaceByte.{PlaceByte}
-use Rattle.automaton.specs.declared.rules.MoveByte.{MoveByte}
-use Rattle.automaton.specs.declared.rules.RuleBytes.{RuleBytes}
-use Rattle.transitions.specs.Transitions.{Covers, Allowed, placeNumber, automatonOf}
-use Rattle.transitions.specs.Single.{shared, meet, singleFrom, single}
-use Rattle.transitions.proofs.Laws.{meets-hit, single-hit}
+use Rattle.automaton.proofs.Bytes.{same-scope, same-move}
+use Rattle.automaton.proofs.Passed.{rule-in}
+use Rattle.transitions.specs.Transitions.{automatonOf}
+use Rattle.transitions.specs.Compiled.{nextIn, Compiled}
+use Rattle.transitions.specs.Spread.{spreadRules}
+use Rattle.transitions.specs.Single.{Single, meet, equal, agree, agreesWith, single}
+use Rattle.transitions.specs.Determined.{Next, choices, oneChoice, oneEach, onePlaces, oneSymbols, determined}
+use Rattle.transitions.proofs.Each.{each-has, each-same}
 use Rattle.transitions.proofs.Meaning.{transition-has}
+use Rattle.transitions.proofs.Spreading.{rule-same, spread-transition, IsTransition, spread-rule}
 
--- ---- the bytes of a known rule
+-- ---- two rules
 
-record Bytes (s : List ℕ) (i : ℕ) (r : Rule) : Type 0 where
-  symbol : getD s (20 + 5 * i) 0 ≡ r .symbol .0
-  state : getD s (20 + 5 * i + 1) 0 ≡ r .state .0
-  scope : sortPlace (getD s (20 + 5 * i + 2) 0) ≡ PlaceByte.Known (r .scope)
+-- they have the same symbol, state and place
+record Meeting (a b : Rule) : Type 0 where
+  symbol : a .symbol .0 ≡ b .symbol .0
+  state : a .state .0 ≡ b .state .0
+  scope : a .scope ≡ b .scope
 
-known-bytes : (h : Header) (s : List ℕ) (i : ℕ) (r : Rule) → ruleAt h s i ≡ RuleBytes.Known r → Bytes s i r
-unfolding ruleAt
-known-bytes h s i r e = go (ltb (getD s at 0) (h .symbols) && ltb (getD s (at + 1) 0) (h .states) && ltb (getD s (at + 4) 0) (h .states)) (sortPlace (getD s (at + 2) 0)) (sortMove (getD s (at + 3) 0)) refl e
+module _ (a b : Rule) where
+  meeting : meet a b ≡ true → Meeting a b
+  meeting e =
+      let x = and-is-true (eqb (a .symbol .0) (b .symbol .0) && eqb (a .state .0) (b .state .0)) (eqb (placeByte (a .scope)) (placeByte (b .scope))) e in
+      let y = and-is-true (eqb (a .symbol .0) (b .symbol .0)) (eqb (a .state .0) (b .state .0)) (x .0) in
+      record { symbol = eqb-true _ _ (y .0); state = eqb-true _ _ (y .1); scope = same-scope (a .scope) (b .scope) (eqb-true _ _ (x .1)) }
+
+  meets : Meeting a b → meet a b ≡ true
+  meets m = simp (eq-eqb _ _ (m .symbol), eq-eqb _ _ (m .state), eq-eqb _ _ (ap placeByte (m .scope)))
+
+  equal-is : equal a b ≡ true → a ≡ b
+  equal-is e =
+      let x = and-is-true (meet a b && eqb (moveByte (a .step)) (moveByte (b .step))) (eqb (a .next .0) (b .next .0)) e in
+      let y = and-is-true (meet a b) (eqb (moveByte (a .step)) (moveByte (b .step))) (x .0) in
+      let m = meeting (y .0) in
+      rule-same a b (m .symbol) (m .state) (m .scope) (same-move (a .step) (b .step) (eqb-true _ _ (y .1))) (eqb-true _ _ (x .1))
+
+  is-equal : a ≡ b → equal a b ≡ true
+  is-equal e =
+      let m : meet a b ≡ true = meets (record { symbol = ap (λ (r : Rule). r .symbol .0) e; state = ap (λ (r : Rule). r .state .0) e; scope = ap (λ (r : Rule). r .scope) e }) in
+      ap₂ _&&_ (ap₂ _&&_ m (eq-eqb _ _ (ap (λ (r : Rule). moveByte (r .step)) e))) (eq-eqb _ _ (ap (λ (r : Rule). r .next .0) e))
+
+  agree-one : agree a b ≡ true → Meeting a b → a ≡ b
+  agree-one e m = let f : (not true || equal a b) ≡ true = subst (λ (t : Bool). (not t || equal a b) ≡ true) (meets m) e in equal-is f
+
+  one-agrees : (Meeting a b → a ≡ b) → agree a b ≡ true
+  one-agrees h = by (meet a b) refl
+    where
+      by : (t : Bool) → meet a b ≡ t → (not t || equal a b) ≡ true
+      by true e = is-equal (h (meeting e))
+      by false e = refl
+
+-- ---- a list of rules
+
+module _ (r : Rule) where
+  of-agrees : (rules : List Rule) → agreesWith r rules ≡ true → (s : Rule) → s ∈ rules → agree r s ≡ true
+  unfolding agreesWith
+  of-agrees [] e s m = absurd (List·Memᴰ·not-nil m)
+  of-agrees (t ∷ rules) e s m =
+      let both = and-is-true (agree r t) (agreesWith r rules) e in
+      ⊎-elim (λ k. rw k (both .0)) (λ k. of-agrees rules (both .1) s k) (List·Memᴰ·cases-cons m)
+
+  to-agrees : (rules : List Rule) → ((s : Rule) → s ∈ rules → agree r s ≡ true) → agreesWith r rules ≡ true
+  unfolding agreesWith
+  to-agrees [] h = refl
+  to-agrees (t ∷ rules) h = ap₂ _&&_ (h t (List·Memᴰ·head refl)) (to-agrees rules (λ s m. h s (List·Memᴰ·tail m)))
+
+turned : {a b : Rule} → Meeting a b → Meeting b a
+turned m = record { symbol = sym (m .symbol); state = sym (m .state); scope = sym (m .scope) }
+
+-- of two rules that meet, the one that comes first agrees with the other
+of-single : (rules : List Rule) → single rules ≡ true → (a b : Rule) → a ∈ rules → b ∈ rules → Meeting a b → a ≡ b
+unfolding single
+of-single [] e a b m k meeting = absurd (List·Memᴰ·not-nil m)
+of-single (r ∷ rules) e a b m k meeting = by (of-single rules (both .1) a b) (List·Memᴰ·cases-cons m) (List·Memᴰ·cases-cons k)
   where
-    at : ℕ
-    at = 20 + 5 * i
+    both : (agreesWith r rules ≡ true) × (single rules ≡ true)
+    both = and-is-true (agreesWith r rules) (single rules) e
 
-    go : (t : Bool) (place : PlaceByte) (step : MoveByte) → sortPlace (getD s (at + 2) 0) ≡ place
-        → knownIf t (sorted (getD s at 0) (getD s (at + 1) 0) place step (getD s (at + 4) 0)) ≡ RuleBytes.Known r → Bytes s i r
-    go false place step p f = clash (cc)
-    go true PlaceByte.Unknown step p f = clash (cc)
-    go true (PlaceByte.Known scope) MoveByte.Unknown p f = clash (cc)
-    go true (PlaceByte.Known scope) (MoveByte.Known step) p f =
-        let same : rule (getD s at 0) (getD s (at + 1) 0) scope step (getD s (at + 4) 0) ≡ r = cc in
-        rw (← same) (record { symbol = refl; state = refl; scope = p })
+    first : (s : Rule) → s ∈ rules → Meeting r s → r ≡ s
+    first s l = agree-one r s (of-agrees r rules (both .0) s l)
 
--- a place byte whose scope has a place is that place's number, or 3
-place-byte : (b : ℕ) (t : Scope) (τ : Place) → sortPlace b ≡ PlaceByte.Known t → Covers t τ → (b ≡ placeNumber τ) ⊎ (b ≡ 3)
-unfolding sortPlace
-place-byte b t τ e c = go b t e c
+    by : (a ∈ rules → b ∈ rules → Meeting a b → a ≡ b) → (a ≡ r) ⊎ (a ∈ rules) → (b ≡ r) ⊎ (b ∈ rules) → a ≡ b
+    by later (inl x) (inl y) = x ∙ sym y
+    by later (inl x) (inr y) = x ∙ first b y (subst (λ (s : Rule). Meeting s b) x meeting)
+    by later (inr x) (inl y) = sym (first a x (subst (λ (s : Rule). Meeting s a) y (turned meeting))) ∙ sym y
+    by later (inr x) (inr y) = later x y meeting
+
+to-single : (rules : List Rule) → ((a b : Rule) → a ∈ rules → b ∈ rules → Meeting a b → a ≡ b) → single rules ≡ true
+unfolding single
+to-single [] h = refl
+to-single (r ∷ rules) h =
+    ap₂ _&&_ (to-agrees r rules (λ s m. one-agrees r s (h r s (List·Memᴰ·head refl) (List·Memᴰ·tail m))))
+    (to-single rules (λ a b m k. h a b (List·Memᴰ·tail m) (List·Memᴰ·tail k)))
+
+-- what is computed of a list is said of its members: neither order nor repeats matter
+pub single-has : (rules : List Rule) → (single rules ≡ true) ↔ Single (λ (r : Rule). r ∈ rules)
+single-has rules = (
+  λ e.
+      record {
+        one-rule = λ a b m k x y z.
+            of-single rules e a b m k (record { symbol = ap (λ (s : Symbol). s .0) x; state = ap (λ (s : State). s .0) y; scope = z });
+      },
+  λ one.
+      to-single rules
+      (λ a b m k meeting. one .one-rule a b m k (λ i. record { 0 = meeting .symbol i }) (λ i. record { 0 = meeting .state i }) (meeting .scope)),
+)
+
+-- ---- the paper's Definition 19
+
+pub single-deterministic : (h : Header) (content : List ℕ) → (single (spreadRules h content) ≡ true) ↔ Deterministic (Δ (automatonOf h content))
+single-deterministic h content = (
+  λ e.
+      record {
+        one-transition = λ {σ} {p} {τ} {μ} {μ'} {q} {q'} d d'.
+            let same = of-single (spreadRules h content) e (rule σ p (Scope.Only τ) μ q) (rule σ p (Scope.Only τ) μ' q')
+            (spread-transition h content σ p τ μ q .1 d) (spread-transition h content σ p τ μ' q' .1 d') (record { symbol = refl; state = refl; scope = refl }) in
+            (ap (λ (r : Rule). r .step) same, ap (λ (r : Rule). r .next .0) same);
+      },
+  λ one. to-single (spreadRules h content) (λ a b m k meeting. same one a b (spread-rule h content a m) (spread-rule h content b k) meeting),
+)
   where
-    one : (π : Place) (t : Scope) → PlaceByte.Known (Scope.Only π) ≡ PlaceByte.Known t → Covers t τ → π ≡ τ
-    one π (Scope.Only ρ) f d = let same : π ≡ ρ = cc in same ∙ d
-    one π Scope.Every f d = clash (cc)
+    same : Deterministic (Δ (automatonOf h content)) → (a b : Rule) → IsTransition h content a → IsTransition h content b → Meeting a b → a ≡ b
+    same one a b x y meeting =
+        let scopes : Scope.Only (x .0) ≡ Scope.Only (y .0) = sym (x .1) ∙ meeting .scope ∙ y .1 in
+        let place : y .0 ≡ x .0 = cc in
+        let e = rw (place, ← meeting .symbol, ← meeting .state) at (y .2) in
+        let one-step = one .one-transition (x .2) e in
+        rule-same a b (meeting .symbol) (meeting .state) (meeting .scope) (one-step .0) (one-step .1)
 
-    go : (b : ℕ) (t : Scope) → sortPlace b ≡ PlaceByte.Known t → Covers t τ → (b ≡ placeNumber τ) ⊎ (b ≡ 3)
-    go zero t f d = inl (rw (← one Place.Root t f d))
-    go (suc zero) t f d = inl (rw (← one (Place.Child Side.Left) t f d))
-    go (suc (suc zero)) t f d = inl (rw (← one (Place.Child Side.Right) t f d))
-    go (suc (suc (suc zero))) t f d = inr refl
-    go (suc (suc (suc (suc k)))) t f d = clash (cc)
+-- ---- the compiled transitions
 
-or-last : (x y z : Bool) → (y ≡ true) ⊎ (z ≡ true) → (x || y || z) ≡ true
-or-last true y z k = refl
-or-last false y z (inl k) = rw k
-or-last false true z (inr k) = refl
-or-last false false z (inr k) = k
+-- the next states of the four moves, as the rows of a relation
+abbrev rowsOf : Next → (σ : ℕ) → Place → (p : ℕ) → List ℕ
+rowsOf next σ τ p = next σ τ Move.Stay p ∷ next σ τ Move.Up p ∷ next σ τ (Move.Down Side.Left) p ∷ next σ τ (Move.Down Side.Right) p ∷ []
 
-shared-place : (a b : ℕ) (τ : Place) → (a ≡ placeNumber τ) ⊎ (a ≡ 3) → (b ≡ placeNumber τ) ⊎ (b ≡ 3) → shared a b ≡ true
-shared-place a b τ (inl e) (inl f) = simp (eq-eqb a b (e ∙ sym f))
-shared-place a b τ (inr e) f = or-last (eqb a b) (eqb a 3) (eqb b 3) (inl (eq-eqb a 3 e))
-shared-place a b τ (inl e) (inr f) = or-last (eqb a b) (eqb a 3) (eqb b 3) (inr (eq-eqb b 3 f))
+-- transitions are of symbols and states that there are, into states below 32
+abbrev Inside : Automaton → Type 0
+Inside A = (σ p : ℕ) (τ : Place) (μ : Move) (q : ℕ) → Δ A σ p τ μ q → (σ < A .symbols) × (p < A .states) × (q < 32)
 
-module _ (h : Header) (s : List ℕ) {σ p : ℕ} {τ : Place} {μ ν : Move} {q q′ : ℕ} where
-  -- records with transitions at one symbol, state and place meet
-  meeting : (a : Allowed h s (h .rules) σ p τ μ q) (b : Allowed h s (h .rules) σ p τ ν q′) → meet s (a .i) (b .i) ≡ true
-  unfolding meet
-  meeting a b =
-      let x = known-bytes h s (a .i) (a .rule) (a .known) in
-      let y = known-bytes h s (b .i) (b .rule) (b .known) in
-      simp (
-        eq-eqb _ _ (x .symbol ∙ a .applies .0 ∙ sym (y .symbol ∙ b .applies .0)),
-        eq-eqb _ _ (x .state ∙ a .applies .1 ∙ sym (y .state ∙ b .applies .1)),
-        shared-place _ _ τ (place-byte _ _ τ (x .scope) (a .applies .2)) (place-byte _ _ τ (y .scope) (b .applies .2)),
+module _ (A : Automaton) (inside : Inside A) (σ : ℕ) (τ : Place) (p : ℕ) where
+  abbrev rows : List ℕ
+  rows = rowsOf (A .next) σ τ p
+
+  move-row : (μ : Move) (q : ℕ) → Δ A σ p τ μ q → has rows (moveByte μ) q
+  move-row Move.Stay q d = d
+  move-row Move.Up q d = d
+  move-row (Move.Down Side.Left) q d = d
+  move-row (Move.Down Side.Right) q d = d
+
+  row-move : (i q : ℕ) → has rows i q → (μ : Move) × (moveByte μ ≡ i) × Δ A σ p τ μ q
+  row-move zero q d = (Move.Stay, refl, d)
+  row-move (suc zero) q d = (Move.Up, refl, d)
+  row-move (suc (suc zero)) q d = (Move.Down Side.Left, refl, d)
+  row-move (suc (suc (suc zero))) q d = (Move.Down Side.Right, refl, d)
+  row-move (suc (suc (suc (suc i)))) q d = absurd (omega (arith, bit-zero q, d))
+
+  words : Words rows
+  words i q k = let m = row-move i q k in inside σ p τ (m .0) q (m .2) .2
+
+  counted : (μ : Move) → ones (A .next σ τ μ p) ≡ bitsOf 32 (A .next σ τ μ p)
+  counted μ = ones-bits 32 (A .next σ τ μ p) (lt-of-bits (A .next σ τ μ p) 32 (λ q d. inside σ p τ μ q d .2))
+
+  -- the four counts together are those of the rows
+  choices-count : choices (A .next) σ τ p ≡ countOf rows
+  choices-count =
+      ap₂ _+_ (ap₂ _+_ (ap₂ _+_ (counted Move.Stay) (counted Move.Up)) (counted (Move.Down Side.Left))) (counted (Move.Down Side.Right))
+      ∙ regroup _ _ _ _
+    where
+      regroup : (a b c d : ℕ) → a + b + c + d ≡ a + (b + (c + (d + 0)))
+      regroup a b c d = omega arith
+
+  -- at most one move and next state
+  choice-has : (oneChoice (A .next) σ τ p ≡ true) ↔ ((μ ν : Move) (q r : ℕ) → Δ A σ p τ μ q → Δ A σ p τ ν r → (μ ≡ ν) × (q ≡ r))
+  unfolding oneChoice
+  choice-has = (
+    λ e μ ν q r d d′.
+        let few = subst (λ (n : ℕ). n ≤ 1) choices-count (leb-true _ 1 e) in
+        let same = count-one rows words .0 few (moveByte μ) q (moveByte ν) r (move-row μ q d) (move-row ν r d′) in
+        (same-move μ ν (same .0), same .1),
+    λ one.
+        le-leb _ 1
+        (subst (λ (n : ℕ). n ≤ 1) (sym choices-count) (count-one rows words .1 (λ i q j r d d′.
+        let m = row-move i q d in
+        let n = row-move j r d′ in
+        let same = one (m .0) (n .0) q r (m .2) (n .2) in
+        (sym (m .1) ∙ ap moveByte (same .0) ∙ n .1, same .1)))),
+  )
+
+places-has : (next : Next) (n σ : ℕ) → (onePlaces next n σ ≡ true) ↔ ((τ : Place) → oneEach next σ τ n ≡ true)
+unfolding onePlaces
+places-has next n σ = (
+  λ e.
+      let x = and-is-true (oneEach next σ Place.Root n && oneEach next σ (Place.Child Side.Left) n) (oneEach next σ (Place.Child Side.Right) n) e in
+      let y = and-is-true (oneEach next σ Place.Root n) (oneEach next σ (Place.Child Side.Left) n) (x .0) in
+      at (y .0) (y .1) (x .1),
+  λ h. ap₂ _&&_ (ap₂ _&&_ (h Place.Root) (h (Place.Child Side.Left))) (h (Place.Child Side.Right)),
+)
+  where
+    at : oneEach next σ Place.Root n ≡ true → oneEach next σ (Place.Child Side.Left) n ≡ true → oneEach next σ (Place.Child Side.Right) n ≡ true
+        → (τ : Place) → oneEach next σ τ n ≡ true
+    at a b c Place.Root = a
+    at a b c (Place.Child Side.Left) = b
+    at a b c (Place.Child Side.Right) = c
+
+pub determined-has : (A : Automaton) → Inside A → (determined A ≡ true) ↔ Deterministic (Δ A)
+determined-has A inside = (
+  λ e.
+      record {
+        one-transition = λ {σ} {p} {τ} {μ} {μ'} {q} {q'} d d'.
+            let in-range = inside σ p τ μ q d in
+            let symbol = each-has (onePlaces (A .next) (A .states)) (A .symbols) .0 e σ (in-range .0) in
+            let state = each-has (oneChoice (A .next) σ τ) (A .states) .0 (places-has (A .next) (A .states) σ .0 symbol τ) p (in-range .1) in
+            choice-has A inside σ τ p .0 state μ μ' q q' d d';
+      },
+  λ one.
+      each-has (onePlaces (A .next) (A .states)) (A .symbols) .1 (λ σ _.
+      places-has (A .next) (A .states) σ .1 (λ τ.
+      each-has (oneChoice (A .next) σ τ) (A .states) .1 (λ p _.
+      choice-has A inside σ τ p .1 (λ μ ν q r d d'. one .one-transition d d')))),
+)
+
+-- two tests of one fact are equal
+pub same-test : {P : Type 0} (a b : Bool) → (a ≡ true) ↔ P → (b ≡ true) ↔ P → a ≡ b
+same-test true b h k = sym (k .1 (h .0 refl))
+same-test false true h k = h .1 (k .0 refl)
+same-test false false h k = refl
+
+module _ (h : Header) (content : List ℕ) where
+  file-inside : h .states ≤ 24 → Inside (automatonOf h content)
+  file-inside few σ p τ μ q d =
+      let a = transition-has h content σ p τ μ q .0 d in
+      let i = rule-in h content (a .i) (a .rule) (a .known) in (
+        subst (λ (x : ℕ). x < h .symbols) (a .applies .0) (i .symbol),
+        subst (λ (x : ℕ). x < h .states) (a .applies .1) (i .state),
+        omega (arith, i .next, a .applies .4),
       )
 
-  apart : single h s ≡ true → (a : Allowed h s (h .rules) σ p τ μ q) (b : Allowed h s (h .rules) σ p τ ν q′) → b .i < a .i → ⊥
-  apart one a b l =
-      let hit : singleFrom s (h .rules) ≡ false = single-hit s (a .i) (h .rules) (a .below) (meets-hit s (a .i) (b .i) (a .i) l (meeting a b)) in
-      clash (cc)
+  pub single-determined : h .states ≤ 24 → single (spreadRules h content) ≡ determined (automatonOf h content)
+  single-determined few =
+      same-test (single (spreadRules h content)) (determined (automatonOf h content)) (single-deterministic h content) (determined-has (automatonOf h content) (file-inside few))
 
-pub single-deterministic : (h : Header) (s : List ℕ) → single h s ≡ true → Deterministic (Δ (automatonOf h s))
-single-deterministic h s one =
-    record {
-      one-transition = λ {σ} {p} {τ} {μ} {μ'} {q} {q'} d e.
-          let a = transition-has h s σ p τ μ q .0 d in
-          let b = transition-has h s σ p τ μ' q' .0 e in
-          same a b (decLt (a .i) (b .i)) (decLt (b .i) (a .i));
-    }
-  where
-    same : {σ p : ℕ} {τ : Place} {μ μ′ : Move} {q q′ : ℕ} (a : Allowed h s (h .rules) σ p τ μ q) (b : Allowed h s (h .rules) σ p τ μ′ q′)
-        → Dec (a .i < b .i) → Dec (b .i < a .i) → (μ ≡ μ′) × (q ≡ q′)
-    same a b (yes l) d = absurd (apart h s one b a l)
-    same a b (no k) (yes l) = absurd (apart h s one a b l)
-    same a b (no k) (no l) =
-        let i : a .i ≡ b .i = omega arith in
-        let known : ruleAt h s (b .i) ≡ RuleBytes.Known (a .rule) = rw i at (a .known) in
-        let r : a .rule ≡ b .rule = cc (known, b .known) in
-        let x : a .rule .step ≡ b .rule .step = ap (λ (t : Rule). t .step) r in
-        let y : a .rule .next .0 ≡ b .rule .next .0 = ap (λ (t : Rule). t .next .0) r in
-        (sym (a .applies .3) ∙ x ∙ b .applies .3, sym (a .applies .4) ∙ y ∙ b .applies .4)
+-- what the cells of an automaton's table tell
+pub table-determined : (A : Automaton) (t : List ℕ) → Compiled A t → A .symbols ≤ 32 → A .states ≤ 24 → oneSymbols (nextIn t) (A .states) (A .symbols) ≡ determined A
+unfolding onePlaces oneChoice
+table-determined A t compiled few-symbols few-states =
+    each-same (onePlaces (nextIn t) (A .states)) (onePlaces (A .next) (A .states)) (A .symbols) (λ σ l.
+    let at : (τ : Place) → oneEach (nextIn t) σ τ (A .states) ≡ oneEach (A .next) σ τ (A .states)
+    = λ τ. each-same (oneChoice (nextIn t) σ τ) (oneChoice (A .next) σ τ) (A .states) (λ p k.
+    let cell : (μ : Move) → ones (nextIn t σ τ μ p) ≡ ones (A .next σ τ μ p) = λ μ. ap ones (compiled .cells σ τ μ p (omega arith) (omega arith)) in
+    ap (λ (n : ℕ). leb n 1) (ap₂ _+_ (ap₂ _+_ (ap₂ _+_ (cell Move.Stay) (cell Move.Up)) (cell (Move.Down Side.Left))) (cell (Move.Down Side.Right)))) in
+    ap₂ _&&_ (ap₂ _&&_ (at Place.Root) (at (Place.Child Side.Left))) (at (Place.Child Side.Right)))

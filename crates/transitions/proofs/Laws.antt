@@ -1,10 +1,9 @@
--- Laws of the table: a store to one cell, a rule's places, the rules one by one; and of the search for records that meet.
+-- Laws of the table: a store to one cell, a rule's places, the rules one by one.
 -- Assumes nothing.
-use Prim.Native.Nat.{ℕ, zero, suc, _+_, _*_, _^_, _<_}
+use Prim.Native.Nat.{ℕ, _+_, _*_, _^_, _<_}
 use mathlib.Core.Path.{_≡_, refl, sym, ap, _∙_}
-use mathlib.Core.Bool.{Bool, true, false, not, _&&_, _||_}
+use mathlib.Core.Bool.{Bool, true, false, _&&_}
 use mathlib.Core.List.{List}
-use native.Mathlib.Decide.{ℕ-discrete}
 use native.Mathlib.Numerals.{add-one}
 use native.Mathlib.Omega.{arith}
 use borrow.Author.Tests.{eqb-true, eq-eqb}
@@ -15,22 +14,24 @@ use lib.Bits.{bitOr}
 use Rattle.model.specs.declared.Side.{Side}
 use Rattle.model.specs.declared.Place.{Place}
 use Rattle.model.specs.declared.Move.{Move}
+use Rattle.blocks.specs.Blocks.{content}
 use Rattle.refusal.proofs.Passed.{and-is-true}
+use Rattle.automaton.specs.Payload.{moveByte}
 use Rattle.automaton.specs.Rules.{ruleAt}
 use Rattle.automaton.specs.declared.Header.{Header}
 use Rattle.automaton.specs.declared.Rule.{Rule}
 use Rattle.automaton.specs.declared.Scope.{Scope}
+use Rattle.automaton.specs.declared.file.Parsed.{Parsed}
 use Rattle.automaton.specs.declared.rules.RuleBytes.{RuleBytes}
-use Rattle.transitions.specs.Transitions.{placeNumber, moveNumber, fits, withIf, addedBy, nextStates}
-use Rattle.transitions.specs.Compiled.{cellOf, RuleFits, Stepped, Added, Tabulates}
-use Rattle.transitions.specs.Single.{meet, meetsOne, singleFrom}
+use Rattle.transitions.specs.Transitions.{placeNumber, fits, withIf, addedBy, nextStates, automatonOf}
+use Rattle.transitions.specs.Compiled.{cellOf, RuleFits, Stepped, Added, Tabulates, Compiled, Loaded}
 
 pub place-small : (τ : Place) → placeNumber τ < 3
 place-small Place.Root = lit< tt
 place-small (Place.Child Side.Left) = lit< tt
 place-small (Place.Child Side.Right) = lit< tt
 
-pub move-small : (μ : Move) → moveNumber μ < 4
+pub move-small : (μ : Move) → moveByte μ < 4
 move-small Move.Stay = lit< tt
 move-small Move.Up = lit< tt
 move-small (Move.Down Side.Left) = lit< tt
@@ -83,13 +84,13 @@ module _ (t : List ℕ) (r : Rule) (π : Place) (long : length t ≡ 9216) (with
       go : (σ : ℕ) (τ : Place) (μ : Move) (p : ℕ) → p < 24 → (x : Bool) → fits r (eqb (placeNumber π) (placeNumber τ)) σ μ p ≡ x
           → getD (set t i v) (cellOf σ τ μ p) 0 ≡ withIf x (r .next .0) (getD t (cellOf σ τ μ p) 0)
       go σ τ μ p hp true e =
-          let s = four-true (r .symbol .0) (placeNumber π) (moveNumber (r .step)) (r .state .0) σ (placeNumber τ) (moveNumber μ) p e in
+          let s = four-true (r .symbol .0) (placeNumber π) (moveByte (r .step)) (r .state .0) σ (placeNumber τ) (moveByte μ) p e in
           let k : cellOf σ τ μ p ≡ i = simp (s .symbol, s .place, s .step, s .state) in
           rw k (getD-set-same t i v 0 (omega (arith, within .symbol, within .state, place-small π, move-small (r .step))))
       go σ τ μ p hp false e =
           getD-set-other t i (cellOf σ τ μ p) v 0
-          (λ q. four-false (r .symbol .0) (placeNumber π) (moveNumber (r .step)) (r .state .0) σ (placeNumber τ) (moveNumber μ) p e
-          (same-cell (r .symbol .0) (placeNumber π) (moveNumber (r .step)) (r .state .0) σ (placeNumber τ) (moveNumber μ) p
+          (λ q. four-false (r .symbol .0) (placeNumber π) (moveByte (r .step)) (r .state .0) σ (placeNumber τ) (moveByte μ) p e
+          (same-cell (r .symbol .0) (placeNumber π) (moveByte (r .step)) (r .state .0) σ (placeNumber τ) (moveByte μ) p
           (place-small π) (move-small (r .step)) (within .state) (place-small τ) (move-small μ) hp (sym q)))
 
 -- ---- a rule's places
@@ -134,38 +135,7 @@ one-held h content n t t′ old new =
       cells = λ σ τ μ p hσ hp. rw add-one (new .cells σ τ μ p hσ hp ∙ ap (addedBy (ruleAt h content n) σ τ μ p) (old .cells σ τ μ p hσ hp));
     }
 
--- ---- records that meet
+-- ---- what loading leaves, of a file that reads
 
-pub meets-next : (content : List ℕ) (i n : ℕ) → meetsOne content i n ≡ false → meet content i n ≡ false → meetsOne content i (n + 1) ≡ false
-unfolding meetsOne
-meets-next content i n a b = rw (add-one, a, b)
-
-pub meets-hit : (content : List ℕ) (i j n : ℕ) → j < n → meet content i j ≡ true → meetsOne content i n ≡ true
-unfolding meetsOne
-meets-hit content i j zero l e = absurd (omega arith)
-meets-hit content i j (suc n) l e = by (ℕ-discrete j n) (λ (k : j < n). meets-hit content i j n k e)
-  where
-    or-true : (a b : Bool) → b ≡ true → (a || b) ≡ true
-    or-true true b h = refl
-    or-true false b h = h
-
-    by : Dec (j ≡ n) → (j < n → meetsOne content i n ≡ true) → (meetsOne content i n || meet content i n) ≡ true
-    by (yes s) ih = or-true (meetsOne content i n) (meet content i n) (rw s at e)
-    by (no s) ih = rw (ih (omega arith))
-
-pub single-next : (content : List ℕ) (n : ℕ) → singleFrom content n ≡ true → meetsOne content n n ≡ false → singleFrom content (n + 1) ≡ true
-unfolding singleFrom
-single-next content n a b = rw (add-one, a, b)
-
-pub single-hit : (content : List ℕ) (i n : ℕ) → i < n → meetsOne content i i ≡ true → singleFrom content n ≡ false
-unfolding singleFrom
-single-hit content i zero l e = absurd (omega arith)
-single-hit content i (suc n) l e = by (ℕ-discrete i n) (λ (k : i < n). single-hit content i n k e)
-  where
-    and-false : (a b : Bool) → b ≡ true → (a && not b) ≡ false
-    and-false true b h = rw h
-    and-false false b h = refl
-
-    by : Dec (i ≡ n) → (i < n → singleFrom content n ≡ false) → (singleFrom content n && not (meetsOne content n n)) ≡ false
-    by (yes s) ih = and-false (singleFrom content n) (meetsOne content n n) (rw s at e)
-    by (no s) ih = rw (ih (omega arith))
+pub loaded-read : (r : Parsed) (h : Header) (s before after : List ℕ) → r ≡ Parsed.Read h → Loaded r s before after → Compiled (automatonOf h (content s)) after
+loaded-read r h s before after e l = rw e at l

@@ -2,7 +2,7 @@
 -- proper (`file-proper`), never goes up from the root and goes down at branch symbols only (`no-exit`, `no-descent`).
 -- Assumes nothing.
 use Prim.Native.Nat.{ℕ, zero, suc, _/_, _^_, _<_}
-use mathlib.Core.Path.{_≡_, refl, sym, ap, subst, _∙_}
+use mathlib.Core.Path.{_≡_, refl, ap, subst}
 use mathlib.Core.Logic.{_⊎_, inl, inr, ⊎-elim, _↔_}
 use mathlib.Core.Bool.{Bool, true, false, not, _&&_}
 use mathlib.Core.List.{List}
@@ -23,6 +23,7 @@ use Rattle.refusal.specs.Checks.{refuseIf, _andThen_}
 use Rattle.refusal.specs.declared.Check.the-variants.{Passed}
 use Rattle.refusal.specs.declared.Fault.{Fault}
 use Rattle.refusal.proofs.Passed.{clash, and-is-true, both-passed, if-passed}
+use Rattle.automaton.specs.Payload.{moveByte}
 use Rattle.automaton.specs.Rules.{ruleAt, mayBeRoot, misplacedMove, misplaced}
 use Rattle.automaton.specs.File.{beyond, setsCheck, parsed}
 use Rattle.automaton.specs.declared.Header.{Header}
@@ -30,40 +31,12 @@ use Rattle.automaton.specs.declared.Rule.{Rule}
 use Rattle.automaton.specs.declared.Scope.{Scope}
 use Rattle.automaton.specs.declared.file.Parsed.{Parsed}
 use Rattle.automaton.specs.declared.rules.RuleBytes.{RuleBytes}
+use Rattle.automaton.proofs.Bytes.{same-scope, same-move}
 use Rattle.automaton.proofs.Passed.{rule-in, file-read}
-use Rattle.transitions.specs.Transitions.{Covers, Applies, Allowed, placeNumber, moveNumber, covers, fits, withIf, addedBy, nextStates, automatonOf}
-
--- ---- numbers tell places and moves apart
-
-placeAt : ℕ → Place
-placeAt zero = Place.Root
-placeAt (suc zero) = Place.Child Side.Left
-placeAt (suc (suc k)) = Place.Child Side.Right
-
-place-at : (τ : Place) → placeAt (placeNumber τ) ≡ τ
-unfolding placeAt
-place-at Place.Root = refl
-place-at (Place.Child Side.Left) = refl
-place-at (Place.Child Side.Right) = refl
+use Rattle.transitions.specs.Transitions.{Covers, Applies, Allowed, placeNumber, covers, fits, withIf, addedBy, nextStates, automatonOf}
 
 pub same-place : {π τ : Place} → placeNumber π ≡ placeNumber τ → π ≡ τ
-same-place {π} {τ} e = sym (place-at π) ∙ ap placeAt e ∙ place-at τ
-
-moveAt : ℕ → Move
-moveAt zero = Move.Stay
-moveAt (suc zero) = Move.Up
-moveAt (suc (suc zero)) = Move.Down Side.Left
-moveAt (suc (suc (suc k))) = Move.Down Side.Right
-
-move-at : (μ : Move) → moveAt (moveNumber μ) ≡ μ
-unfolding moveAt
-move-at Move.Stay = refl
-move-at Move.Up = refl
-move-at (Move.Down Side.Left) = refl
-move-at (Move.Down Side.Right) = refl
-
-same-move : {μ ν : Move} → moveNumber μ ≡ moveNumber ν → μ ≡ ν
-same-move {μ} {ν} e = sym (move-at μ) ∙ ap moveAt e ∙ move-at ν
+same-place {π} {τ} e = let same : Scope.Only π ≡ Scope.Only τ = same-scope (Scope.Only π) (Scope.Only τ) e in cc
 
 -- ---- a transition is what some rule allows
 
@@ -78,19 +51,19 @@ fits-has : (r : Rule) (σ : ℕ) (τ : Place) (μ : Move) (p : ℕ)
     → (fits r (covers (r .scope) τ) σ μ p ≡ true) ↔ ((r .symbol .0 ≡ σ) × (r .state .0 ≡ p) × Covers (r .scope) τ × (r .step ≡ μ))
 fits-has r σ τ μ p = (
   λ h.
-      let x = and-is-true (covers (r .scope) τ && eqb (r .symbol .0) σ && eqb (moveNumber (r .step)) (moveNumber μ)) (eqb (r .state .0) p) h in
-      let y = and-is-true (covers (r .scope) τ && eqb (r .symbol .0) σ) (eqb (moveNumber (r .step)) (moveNumber μ)) (x .0) in
+      let x = and-is-true (covers (r .scope) τ && eqb (r .symbol .0) σ && eqb (moveByte (r .step)) (moveByte μ)) (eqb (r .state .0) p) h in
+      let y = and-is-true (covers (r .scope) τ && eqb (r .symbol .0) σ) (eqb (moveByte (r .step)) (moveByte μ)) (x .0) in
       let z = and-is-true (covers (r .scope) τ) (eqb (r .symbol .0) σ) (y .0) in (
         eqb-true (r .symbol .0) σ (z .1),
         eqb-true (r .state .0) p (x .1),
         covers-has (r .scope) τ .0 (z .0),
-        same-move (eqb-true (moveNumber (r .step)) (moveNumber μ) (y .1)),
+        same-move (r .step) μ (eqb-true (moveByte (r .step)) (moveByte μ) (y .1)),
       ),
   λ (a, b, c, d).
       simp (
         covers-has (r .scope) τ .1 c,
         eq-eqb (r .symbol .0) σ a,
-        eq-eqb (moveNumber (r .step)) (moveNumber μ) (ap moveNumber d),
+        eq-eqb (moveByte (r .step)) (moveByte μ) (ap moveByte d),
         eq-eqb (r .state .0) p b,
       ),
 )

@@ -1,5 +1,5 @@
 -- The compiled transitions: a set of next states for each of 32 symbols, 3 places, 4 moves and 24 states.
--- Interface: `cellOf`, `RuleFits`, `Stepped`, `Added`, `Compiled`, `Loaded`.
+-- Interface: `cellOf`, `nextIn`, `RuleFits`, `Stepped`, `Added`, `Compiled`, `Loaded`.
 use Prim.Native.Nat.{ℕ, _+_, _*_, _<_}
 use mathlib.Core.Path.{_≡_}
 use mathlib.Core.List.{List}
@@ -8,15 +8,20 @@ use lib.Dec.{eqb}
 use Rattle.model.specs.declared.Place.{Place}
 use Rattle.model.specs.declared.Move.{Move}
 use Rattle.blocks.specs.Blocks.{content}
+use Rattle.automaton.specs.Payload.{moveByte}
 use Rattle.automaton.specs.declared.Rule.{Rule}
 use Rattle.automaton.specs.declared.file.Parsed.{Parsed}
 use Rattle.automaton.specs.declared.rules.RuleBytes.{RuleBytes}
 use Rattle.algorithms.specs.Automaton.{Automaton}
-use Rattle.transitions.specs.Transitions.{placeNumber, moveNumber, fits, withIf, addedBy, automatonOf}
+use Rattle.transitions.specs.Transitions.{placeNumber, fits, withIf, addedBy, automatonOf}
 
 -- the cell of a symbol, a place, a move and a state
 abbrev pub cellOf : ℕ → Place → Move → ℕ → ℕ
-cellOf σ τ μ p = ((σ * 3 + placeNumber τ) * 4 + moveNumber μ) * 24 + p
+cellOf σ τ μ p = ((σ * 3 + placeNumber τ) * 4 + moveByte μ) * 24 + p
+
+-- what the cells of a table hold
+abbrev pub nextIn : List ℕ → (σ : ℕ) → Place → Move → (p : ℕ) → ℕ
+nextIn t σ τ μ p = getD t (cellOf σ τ μ p) 0
 
 -- a rule's numbers are within the table
 pub record RuleFits (r : Rule) : Type 0 where

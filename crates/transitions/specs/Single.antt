@@ -1,43 +1,50 @@
--- Single automata (document 01, tally and report: "A walker is single if no two rule records meet at one symbol, state and place; place 3
--- meets each").
--- Interface: `shared`, `meet`, `meetsOne`, `single`, `singleIf`, `singleOf`.
-use Prim.Native.Nat.{ℕ, zero, suc, _+_, _*_}
+-- Single automata (document 01, tally and report; as document 02, W2 has it): "Equal rules, after place 3 is spread over its places, count as the
+-- same rule when we say whether a walker is single." Of the spread rules, equal ones taken once, no two have the same symbol, state and place.
+-- Interface: `Single`, `meet`, `equal`, `single`, `singleIf`, `singleOf`.
+use Prim.Native.Nat.{ℕ}
+use mathlib.Core.Path.{_≡_}
 use mathlib.Core.Bool.{Bool, true, false, not, _&&_, _||_}
-use mathlib.Core.List.{List}
-use lib.ListN.{getD}
+use mathlib.Core.List.{List, [], _∷_}
 use lib.Dec.{eqb}
 use Rattle.automaton.specs.File.{readAutomaton}
-use Rattle.automaton.specs.declared.Header.{Header}
+use Rattle.automaton.specs.Payload.{placeByte, moveByte}
+use Rattle.automaton.specs.declared.Rule.{Rule}
+use Rattle.transitions.specs.Spread.{spreadRules}
 use Rattle.transitions.specs.declared.single.Singleness.{Singleness}
 
--- two place bytes have a place in common: they are equal, or one is 3
-abbrev pub shared : ℕ → ℕ → Bool
-shared a b = eqb a b || eqb a 3 || eqb b 3
+-- of a set of rules: two with the same symbol, state and place are one
+pub record Single (rules : Rule → Type 0) : Type 0 where
+  pub one-rule : (a b : Rule) → rules a → rules b → a .symbol ≡ b .symbol → a .state ≡ b .state → a .scope ≡ b .scope → a ≡ b
 
--- the rule records i and j have the same symbol and state and a place in common
-unfoldable pub meet : List ℕ → ℕ → ℕ → Bool
-meet content i j =
-    eqb (getD content (20 + 5 * i) 0) (getD content (20 + 5 * j) 0)
-    && eqb (getD content (20 + 5 * i + 1) 0) (getD content (20 + 5 * j + 1) 0)
-    && shared (getD content (20 + 5 * i + 2) 0) (getD content (20 + 5 * j + 2) 0)
+-- ---- the same, computed (`Determinism.single-has`)
 
--- record i meets one of the first n
-unfoldable pub meetsOne : List ℕ → (i n : ℕ) → Bool
-meetsOne content i zero = false
-meetsOne content i (suc n) = meetsOne content i n || meet content i n
+-- two rules have the same symbol, state and place
+abbrev pub meet : Rule → Rule → Bool
+meet a b = eqb (a .symbol .0) (b .symbol .0) && eqb (a .state .0) (b .state .0) && eqb (placeByte (a .scope)) (placeByte (b .scope))
 
--- no record of the first n meets an earlier one
-unfoldable pub singleFrom : List ℕ → ℕ → Bool
-singleFrom content zero = true
-singleFrom content (suc n) = singleFrom content n && not (meetsOne content n n)
+-- all five bytes are equal
+abbrev pub equal : Rule → Rule → Bool
+equal a b = meet a b && eqb (moveByte (a .step)) (moveByte (b .step)) && eqb (a .next .0) (b .next .0)
 
-abbrev pub single : Header → List ℕ → Bool
-single h content = singleFrom content (h .rules)
+-- rules that meet are equal
+abbrev pub agree : Rule → Rule → Bool
+agree a b = not (meet a b) || equal a b
+
+unfoldable pub agreesWith : Rule → List Rule → Bool
+agreesWith r [] = true
+agreesWith r (s ∷ rules) = agree r s && agreesWith r rules
+
+-- each rule agrees with all that follow it
+unfoldable pub single : List Rule → Bool
+single [] = true
+single (r ∷ rules) = agreesWith r rules && single rules
+
+-- ---- of a file
 
 abbrev pub singleIf : Bool → Singleness
 singleIf true = Singleness.Single
 singleIf false = Singleness.Multiple
 
--- of a file: whether its automaton is single, or its refusal
+-- whether its automaton is single, or its refusal
 unfoldable pub singleOf : List ℕ → Singleness
-singleOf s = readAutomaton s Singleness.Refused (λ h contents. singleIf (single h contents))
+singleOf s = readAutomaton s Singleness.Refused (λ h contents. singleIf (single (spreadRules h contents)))

@@ -1,19 +1,19 @@
 -- The automaton of a file: its counts and sets, and the transitions that its rules allow (document 01, the walker file; steps, runs, crossings:
 -- "A rule applies at a node of its symbol, in its state, at its place").
--- Interface: `placeNumber`, `moveNumber`, `automatonOf`, `byAutomaton`.
+-- Interface: `placeNumber`, `automatonOf`, `byAutomaton`.
 use Prim.Native.Nat.{ℕ, zero, suc, _^_, _<_}
 use mathlib.Core.Path.{_≡_}
 use mathlib.Core.Bool.{Bool, true, false, _&&_}
 use mathlib.Core.List.{List}
 use lib.Bits.{bitOr}
 use lib.Dec.{eqb}
-use Rattle.model.specs.declared.Side.{Side}
 use Rattle.model.specs.declared.Place.{Place}
 use Rattle.model.specs.declared.Move.{Move}
 use Rattle.algorithms.specs.Automaton.{Automaton}
 use Rattle.refusal.specs.declared.Refusal.{Refusal}
 use Rattle.automaton.specs.Rules.{ruleAt}
 use Rattle.automaton.specs.File.{readAutomaton}
+use Rattle.automaton.specs.Payload.{placeByte, moveByte}
 use Rattle.automaton.specs.declared.Header.{Header}
 use Rattle.automaton.specs.declared.Rule.{Rule}
 use Rattle.automaton.specs.declared.Scope.{Scope}
@@ -41,15 +41,7 @@ pub record Allowed (h : Header) (content : List ℕ) (n : ℕ) (σ p : ℕ) (τ 
 -- ---- the same, computed
 
 abbrev pub placeNumber : Place → ℕ
-placeNumber Place.Root = 0
-placeNumber (Place.Child Side.Left) = 1
-placeNumber (Place.Child Side.Right) = 2
-
-abbrev pub moveNumber : Move → ℕ
-moveNumber Move.Stay = 0
-moveNumber Move.Up = 1
-moveNumber (Move.Down Side.Left) = 2
-moveNumber (Move.Down Side.Right) = 3
+placeNumber τ = placeByte (Scope.Only τ)
 
 abbrev pub covers : Scope → Place → Bool
 covers (Scope.Only π) τ = eqb (placeNumber π) (placeNumber τ)
@@ -57,7 +49,7 @@ covers Scope.Every τ = true
 
 -- a rule that covers the place has this symbol, move and state
 abbrev pub fits : Rule → (covered : Bool) → (σ : ℕ) → Move → (p : ℕ) → Bool
-fits r covered σ μ p = covered && eqb (r .symbol .0) σ && eqb (moveNumber (r .step)) (moveNumber μ) && eqb (r .state .0) p
+fits r covered σ μ p = covered && eqb (r .symbol .0) σ && eqb (moveByte (r .step)) (moveByte μ) && eqb (r .state .0) p
 
 abbrev pub withIf : Bool → (q set : ℕ) → ℕ
 withIf true q set = bitOr set (2 ^ q)

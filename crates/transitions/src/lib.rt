@@ -1,7 +1,6 @@
 // The transitions of an automaton, compiled from its rules into a table of sets of next states: a cell for each symbol, place, move and state.
 pub mod single;
 
-use automaton::Contents;
 use automaton::Header;
 use automaton::Rule;
 use automaton::Scope;
@@ -15,9 +14,10 @@ use model::Symbol;
 ghost use mathlib.Core.Path.{_≡_};
 ghost use Prim.Native.Nat.{_+_, _*_, _<_, _≤_};
 ghost use lib.ListN.{length, replicate};
-ghost use Rattle.automaton.specs.File.{LaidOut, parsed, contentsAfter};
+ghost use Rattle.automaton.specs.File.{LaidOut, parsed};
+ghost use Rattle.automaton.specs.Payload.{moveByte};
 ghost use Rattle.automaton.specs.Rules.{ruleAt};
-ghost use Rattle.transitions.specs.Transitions.{placeNumber, moveNumber, automatonOf};
+ghost use Rattle.transitions.specs.Transitions.{placeNumber, automatonOf};
 ghost use Rattle.transitions.specs.Compiled.{cellOf, RuleFits, Stepped, Added, Compiled, Loaded};
 
 // A set of next states for each of 32 symbols, 3 places, 4 moves and 24 states.
@@ -36,7 +36,7 @@ fn place_number(place: Place) -> usize
 }
 
 fn move_number(step: Move) -> usize
-    ensures { λ r. ⌜ (r ≡ moveNumber step) × (r < 4) ⌝ }
+    ensures { λ r. ⌜ (r ≡ moveByte step) × (r < 4) ⌝ }
 {
     match step {
         Move::Stay => 0,
@@ -120,17 +120,16 @@ fn compile(content: &[u8], header: Header, table: &mut TransitionTable)
     }
 }
 
-// Reads an automaton's file: its joined contents go to the front of one lent buffer, its compiled transitions to the other. A refused file leaves
-// both as they were.
-pub fn load(file: &[u8], contents: &mut Contents, table: &mut TransitionTable) -> Parsed
-    ensures { λ r. ⌜ (r ≡ parsed (now (file .entry))) × (now (contents .exit) ≡ contentsAfter r (now (file .entry)) (now (contents .entry)))
-        × Loaded r (now (file .entry)) (now (table .entry)) (now (table .exit)) ⌝ }
+// Reads an automaton's file: its compiled transitions go to the table. A refused file leaves the table as it was.
+pub fn load(file: &[u8], table: &mut TransitionTable) -> Parsed
+    ensures { λ r. ⌜ (r ≡ parsed (now (file .entry))) × Loaded r (now (file .entry)) (now (table .entry)) (now (table .exit)) ⌝ }
 {
-    match automaton::file::parse(file, contents) {
+    let mut contents = [0u8; 3048];
+    match automaton::file::parse(file, &mut contents) {
         Parsed::Refused(refusal) => Parsed::Refused(refusal),
         Parsed::Read(header) => {
             let len = blocks::content_length(file);
-            compile(blocks::front(contents, len), header, table);
+            compile(&contents[..len], header, table);
             Parsed::Read(header)
         }
     }

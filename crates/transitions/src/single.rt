@@ -1,11 +1,22 @@
-// Whether an automaton is single: no two of its rule records meet.
+// Whether an automaton is single. Its compiled transitions are its spread rules, each once: it is single where they are deterministic.
+use crate::TransitionTable;
+use crate::cell;
 use automaton::Header;
 use automaton::file::Parsed;
+use model::Move;
+use model::Place;
+use model::Side;
+use model::State;
+use model::Symbol;
 use refusal::Refusal;
 ghost use mathlib.Core.Path.{_≡_};
-ghost use Prim.Native.Nat.{_+_, _*_, _<_, _≤_};
-ghost use lib.ListN.{length};
-ghost use Rattle.transitions.specs.Single.{shared, meet, meetsOne, single, singleIf, singleOf};
+ghost use Prim.Native.Nat.{_<_, _≤_};
+ghost use lib.Count.{ones};
+ghost use Rattle.algorithms.specs.Automaton.{Automaton};
+ghost use Rattle.automaton.specs.File.{WithinLimits};
+ghost use Rattle.transitions.specs.Compiled.{nextIn, Compiled};
+ghost use Rattle.transitions.specs.Determined.{oneChoice, oneEach, onePlaces, oneSymbols, determined};
+ghost use Rattle.transitions.specs.Single.{singleIf, singleOf};
 
 // What is told of a file: whether its automaton is single, or its refusal.
 pub enum Singleness {
@@ -14,72 +25,76 @@ pub enum Singleness {
     Refused(Refusal),
 }
 
-// Whether two place bytes have a place in common.
-fn share(a: u8, b: u8) -> bool
-    ensures { λ r. ⌜ r ≡ shared a b ⌝ }
+// How many members a set has.
+fn size(set: u32) -> u32
+    ensures { λ r. ⌜ (r ≡ ones set) × (r ≤ 32) ⌝ }
 {
-    if a == b {
-        return true;
-    }
-    if a == 3 {
-        return true;
-    }
-    b == 3
+    u32::count_ones(set)
 }
 
-// Whether the records i and j have the same symbol and state and a place in common.
-fn records_meet(content: &[u8], i: usize, j: usize) -> bool
-    requires { ⌜ (25 + 5 * i ≤ length (now content)) × (25 + 5 * j ≤ length (now content)) ⌝ }
-    ensures { λ r. ⌜ r ≡ meet (now (content .entry)) i j ⌝ }
+// Whether a symbol, a place and a state have at most one move and next state.
+fn one_choice(table: &TransitionTable, symbol: Symbol, place: Place, state: State) -> bool
+    requires { ⌜ (symbol .0 < 32) × (state .0 < 24) ⌝ }
+    ensures { λ r. ⌜ r ≡ oneChoice (nextIn (now (table .entry))) (symbol .0) place (state .0) ⌝ }
 {
-    let a = 20 + 5 * i;
-    let b = 20 + 5 * j;
-    if content[a] != content[b] {
-        return false;
-    }
-    if content[a + 1] != content[b + 1] {
-        return false;
-    }
-    share(content[a + 2], content[b + 2])
+    let stay = size(table[cell(symbol, place, Move::Stay, state)]);
+    let up = size(table[cell(symbol, place, Move::Up, state)]);
+    let left = size(table[cell(symbol, place, Move::Down(Side::Left), state)]);
+    let right = size(table[cell(symbol, place, Move::Down(Side::Right), state)]);
+    stay + up + left + right <= 1
 }
 
-// Whether record i meets an earlier one.
-fn meets_earlier(content: &[u8], i: usize) -> bool
-    requires { ⌜ 25 + 5 * i ≤ length (now content) ⌝ }
-    ensures { λ r. ⌜ r ≡ meetsOne (now (content .entry)) i i ⌝ }
+// The same for each state.
+fn one_each(table: &TransitionTable, symbol: Symbol, place: Place, states: usize) -> bool
+    requires { ⌜ (symbol .0 < 32) × (states ≤ 24) ⌝ }
+    ensures { λ r. ⌜ r ≡ oneEach (nextIn (now (table .entry))) (symbol .0) place states ⌝ }
 {
-    let mut j = 0;
-    while j < i {
-        if records_meet(content, i, j) {
-            return true;
-        }
-        j += 1;
-    }
-    false
-}
-
-// Whether no two of the records meet.
-fn is_single(content: &[u8], header: Header) -> bool
-    requires { ⌜ 20 + 5 * header .rules ≤ length (now content) ⌝ }
-    ensures { λ r. ⌜ r ≡ single header (now (content .entry)) ⌝ }
-{
-    let rules = header.rules as usize;
-    let mut i = 0;
-    while i < rules {
-        if meets_earlier(content, i) {
+    let mut p = 0;
+    while p < states {
+        if !one_choice(table, symbol, place, State(p as u8)) {
             return false;
         }
-        i += 1;
+        p += 1;
     }
     true
 }
 
-// Whether the automaton of a header and the joined contents is single.
-pub fn single_read(contents: &[u8], header: Header) -> Singleness
-    requires { ⌜ 20 + 5 * header .rules ≤ length (now contents) ⌝ }
-    ensures { λ r. ⌜ r ≡ singleIf (single header (now (contents .entry))) ⌝ }
+// The same at each place.
+fn one_places(table: &TransitionTable, symbol: Symbol, states: usize) -> bool
+    requires { ⌜ (symbol .0 < 32) × (states ≤ 24) ⌝ }
+    ensures { λ r. ⌜ r ≡ onePlaces (nextIn (now (table .entry))) states (symbol .0) ⌝ }
 {
-    if is_single(contents, header) {
+    if !one_each(table, symbol, Place::Root, states) {
+        return false;
+    }
+    if !one_each(table, symbol, Place::Child(Side::Left), states) {
+        return false;
+    }
+    one_each(table, symbol, Place::Child(Side::Right), states)
+}
+
+// The same for each symbol.
+fn one_symbols(table: &TransitionTable, symbols: usize, states: usize) -> bool
+    requires { ⌜ (symbols ≤ 32) × (states ≤ 24) ⌝ }
+    ensures { λ r. ⌜ r ≡ oneSymbols (nextIn (now (table .entry))) states symbols ⌝ }
+{
+    let mut symbol = 0;
+    while symbol < symbols {
+        if !one_places(table, Symbol(symbol as u8), states) {
+            return false;
+        }
+        symbol += 1;
+    }
+    true
+}
+
+// Whether an automaton is single, by its header and compiled transitions.
+pub fn single_prepared(header: Header, table: &TransitionTable) -> Singleness
+    requires { ⌜ WithinLimits header ⌝ }
+    ensures { λ r. ⌜ ((A : Automaton) → Compiled A (now (table .entry)) → A .symbols ≡ header .symbols → A .states ≡ header .states
+        → r ≡ singleIf (determined A)) ⌝ }
+{
+    if one_symbols(table, header.symbols as usize, header.states as usize) {
         Singleness::Single
     } else {
         Singleness::Multiple
@@ -90,12 +105,9 @@ pub fn single_read(contents: &[u8], header: Header) -> Singleness
 pub fn single_file(file: &[u8]) -> Singleness
     ensures { λ r. ⌜ r ≡ singleOf (now (file .entry)) ⌝ }
 {
-    let mut contents = [0u8; 3048];
-    match automaton::file::parse(file, &mut contents) {
+    let mut table = [0u32; 9216];
+    match crate::load(file, &mut table) {
         Parsed::Refused(refusal) => Singleness::Refused(refusal),
-        Parsed::Read(header) => {
-            let len = blocks::content_length(file);
-            single_read(&contents[..len], header)
-        }
+        Parsed::Read(header) => single_prepared(header, &table),
     }
 }

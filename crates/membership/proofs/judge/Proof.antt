@@ -23,14 +23,14 @@ both w s r e = (e, rw e (judged-right w s))
 -- the automaton is ready
 ready : (c : tie.After-known-told2) → let h = c .before .header .given .0 .0 in
     WithinLimits h
-    × Ready (automatonOf h (content (c .before .before .before .before .before .before .before .before .before .args .automaton .now))) h (c .before .before .before .prepare .last .1 .1 .0) (c .before .before .before .prepare .last .1 .1 .1 .0)
-ready c = prepared-ready _ _ _ _ _ _ _ (c .before .header .given .1) (c .before .before .before .prepare .ensures .2)
+    × Ready (automatonOf h (content (c .before .before .before .before .before .before .before .before .args .automaton .now))) h (c .before .before .before .prepare .last .1 .0) (c .before .before .before .prepare .last .1 .1 .0)
+ready c = prepared-ready _ _ _ _ _ _ _ (c .before .header .given .1) (c .before .before .before .prepare .ensures .1)
 
-refused-is : (c : tie.After-known-told) → Answer.Refused (c .before .refusal .given .0 .0) ≡ judged (c .before .before .before .before .before .before .before .before .before .args .automaton .now) (c .before .before .before .before .before .before .before .before .before .args .tree .now)
+refused-is : (c : tie.After-known-told) → Answer.Refused (c .before .refusal .given .0 .0) ≡ judged (c .before .before .before .before .before .before .before .before .args .automaton .now) (c .before .before .before .before .before .before .before .before .args .tree .now)
 unfolding judged
 refused-is c = rw (sym (c .before .before .before .prepare .ensures .0) ∙ c .before .refusal .given .1)
 
-judged-is : (c : tie.After-judge-file) → c .judge-file .result ≡ judged (c .before .before .before .before .before .before .before .before .before .before .before .before .args .automaton .now) (c .before .before .before .before .before .before .before .before .before .before .before .before .args .tree .now)
+judged-is : (c : tie.After-judge-file) → c .judge-file .result ≡ judged (c .before .before .before .before .before .before .before .before .before .before .before .args .automaton .now) (c .before .before .before .before .before .before .before .before .before .before .before .args .tree .now)
 unfolding judged
 judged-is c =
     let told = c .before .before .before in

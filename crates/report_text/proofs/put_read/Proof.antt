@@ -2,12 +2,12 @@
 -- Assumes nothing.
 use borrow.Author.Needs.{needs}
 use Rattle.text.proofs.Laws.{told-as}
-use Rattle.report_text.proofs.Laws.{head-is}
+use Rattle.report_text.proofs.Laws.{head-is, single-is}
 use Rattle.report_text.proofs.put_read.Statement.{statement}
 use Rattle.report_text.proofs.put_read.Tie as tie
 
-single-read-requires : tie.Need-single-read-requires
-single-read-requires c κs = search needs
+single-prepared-requires : tie.Need-single-prepared-requires
+single-prepared-requires c κs = search needs
 
 quick-prepared-requires : tie.Need-quick-prepared-requires
 quick-prepared-requires c κs = search needs
@@ -26,15 +26,17 @@ same-length c = search needs
 
 returns : tie.Need-returns
 returns c =
-    let ready = c .before .before .before .before .before .before .before .before .before .before .before .pre .2 in
-    let told = c .before .before .put-head .ensures in
-    (told-as (told .0) (head-is _ _ _ _ _ _ _ (c .before .before .before .before .before .before .before .before .single-read .ensures) (c .before .before .before .before .before .before .before .quick-prepared .ensures _ ready) (search needs) (c .before .before .before .before .before .survey-prepared .ensures _ ready)), told .1)
+    let told = c .before .before .put-head .ensures in (
+      λ p ready.
+          told-as (told .0) (head-is _ p _ _ _ _ _ (single-is _ p _ _ _ ready (c .before .before .before .before .before .before .before .before .single-prepared .ensures)) (c .before .before .before .before .before .before .before .quick-prepared .ensures _ ready) (search needs) (c .before .before .before .before .before .survey-prepared .ensures _ ready)),
+      told .1,
+    )
 
 pub put-read-spec : {M : Type 1} → statement M
 put-read-spec =
     tie.close
     (tie.spec
-    single-read-requires
+    single-prepared-requires
     quick-prepared-requires
     slice-aggregate-survey-prepared
     survey-prepared-requires

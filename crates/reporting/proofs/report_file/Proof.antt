@@ -2,11 +2,9 @@
 -- Assumes nothing.
 use borrow.Author.Needs.{needs}
 use mathlib.Core.Path.{_≡_, refl, sym, _∙_}
-use lib.ListN.{take}
 use Rattle.blocks.specs.Blocks.{content}
 use Rattle.automaton.specs.File.{WithinLimits, parsed}
 use Rattle.automaton.specs.declared.file.Parsed.{Parsed}
-use Rattle.automaton.proofs.Passed.{file-read, contents-are, contents-fit}
 use Rattle.transitions.specs.Transitions.{automatonOf}
 use Rattle.overloops.specs.Ready.{Ready}
 use Rattle.overloops.proofs.Laws.{prepared-ready}
@@ -15,18 +13,13 @@ use Rattle.reporting.proofs.report_file.Statement.{statement}
 use Rattle.reporting.proofs.report_file.Tie as tie
 
 -- the file reads, and its automaton is ready
-read-is : (c : tie.After-known-told2) → parsed (c .before .before .before .before .before .before .before .before .args .file .now) ≡ Parsed.Read (c .before .header .given .0 .0)
+read-is : (c : tie.After-known-told2) → parsed (c .before .before .before .before .before .before .before .args .file .now) ≡ Parsed.Read (c .before .header .given .0 .0)
 read-is c = sym (c .before .before .before .prepare .ensures .0) ∙ c .before .header .given .1
 
 ready : (c : tie.After-known-told2) → let h = c .before .header .given .0 .0 in
     WithinLimits h
-    × Ready (automatonOf h (content (c .before .before .before .before .before .before .before .before .args .file .now))) h (c .before .before .before .prepare .last .1 .1 .0) (c .before .before .before .prepare .last .1 .1 .1 .0)
-ready c = prepared-ready _ _ _ _ _ _ _ (c .before .header .given .1) (c .before .before .before .prepare .ensures .2)
-
--- the part of the buffer that is lent on holds the joined contents
-content-is : (c : tie.After-content-length) → take (c .content-length .result) (c .before .before .before .before .prepare .last .1 .0) ≡ content (c .before .before .before .before .before .before .before .before .before .args .file .now)
-content-is c =
-    contents-are _ _ _ _ (c .before .before .header .given .0 .0) _ (c .before .before .header .given .1) (c .before .before .before .before .prepare .ensures .1) (c .content-length .ensures)
+    × Ready (automatonOf h (content (c .before .before .before .before .before .before .before .args .file .now))) h (c .before .before .before .prepare .last .1 .0) (c .before .before .before .prepare .last .1 .1 .0)
+ready c = prepared-ready _ _ _ _ _ _ _ (c .before .header .given .1) (c .before .before .before .prepare .ensures .1)
 
 prepare-requires : tie.Need-prepare-requires
 prepare-requires c κs = search needs
@@ -40,20 +33,11 @@ print-refused-requires c κs = search needs
 enum-known-header : tie.Need-enum-known-header
 enum-known-header c = search needs
 
-content-length-requires : tie.Need-content-length-requires
-content-length-requires c κs = search needs
-
-array-share-prefix-contents : tie.Need-array-share-prefix-contents
-array-share-prefix-contents c = contents-fit _ _ _ (c .content-length .ensures) (content-is c)
-
-slice-aggregate-print-head : tie.Need-slice-aggregate-print-head
-slice-aggregate-print-head c = rw (content-is (c .before)) (c .before .content-length .ensures)
-
 print-head-requires : tie.Need-print-head-requires
-print-head-requires c κs = rw (content-is (c .before .before .before)) (file-read _ _ (read-is (c .before .before .before .before)) .laid-out, ready (c .before .before .before .before) .1)
+print-head-requires c κs = ready (c .before .before) .0
 
 tally-files-requires : tie.Need-tally-files-requires
-tally-files-requires c κs = ready (c .before .before .before .before .before .before .before) .0
+tally-files-requires c κs = ready (c .before .before .before .before .before) .0
 
 print-tally-requires : tie.Need-print-tally-requires
 print-tally-requires c κs = search needs
@@ -63,9 +47,8 @@ returns c = reported-refused _ _ _ _ (sym (c .before .before .before .before .pr
 
 returns-2 : tie.Need-returns-2
 returns-2 c =
-    let told = c .before .before .before .before .before .before .before .before .before in
-    let head = rw (content-is (c .before .before .before .before .before .before .before .before)) at (c .before .before .before .before .print-head .ensures) in
-    reported-read _ _ _ _ _ _ _ (read-is told) (c .before .tally-files .ensures _ (ready told .1)) head (c .print-tally .ensures) refl
+    let told = c .before .before .before .before .before .before .before in
+    reported-read _ _ _ _ _ _ _ (read-is told) (c .before .tally-files .ensures _ (ready told .1)) (c .before .before .before .before .print-head .ensures _ (ready told .1)) (c .print-tally .ensures) refl
 
 pub report-file-spec : {M : Type 1} → statement M
 report-file-spec =
@@ -75,9 +58,6 @@ report-file-spec =
     enum-known-refusal
     print-refused-requires
     enum-known-header
-    content-length-requires
-    array-share-prefix-contents
-    slice-aggregate-print-head
     print-head-requires
     tally-files-requires
     print-tally-requires

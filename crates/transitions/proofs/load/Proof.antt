@@ -2,10 +2,11 @@
 -- Assumes nothing.
 use borrow.Author.Needs.{needs}
 use mathlib.Core.Path.{_≡_, refl, sym, _∙_}
+use lib.ListN.{take}
 use Rattle.blocks.specs.Blocks.{content}
 use Rattle.automaton.specs.File.{parsed}
 use Rattle.automaton.specs.declared.file.Parsed.{Parsed}
-use Rattle.automaton.proofs.Passed.{file-read, contents-are}
+use Rattle.automaton.proofs.Passed.{file-read, contents-are, contents-fit}
 use Rattle.transitions.proofs.load.Statement.{statement}
 use Rattle.transitions.proofs.load.Tie as tie
 
@@ -14,10 +15,9 @@ read-is : (c : tie.After-known-told2) → parsed (c .before .before .before .bef
 read-is c = sym (c .before .before .before .parse .ensures .0) ∙ c .before .header .given .1
 
 -- the part of the buffer that is lent on holds the joined contents
-content-is : (c : tie.After-front) → c .front .result .now ≡ content (c .before .before .before .before .before .before .before .before .before .before .args .file .now)
+content-is : (c : tie.After-content-length) → take (c .content-length .result) (c .before .before .before .before .parse .last .1 .0) ≡ content (c .before .before .before .before .before .before .before .args .file .now)
 content-is c =
-    c .front .ensures
-    ∙ contents-are _ _ _ _ (c .before .before .before .before .before .header .given .0 .0) _ (c .before .before .before .before .before .header .given .1) (c .before .before .before .before .before .before .before .parse .ensures .1) (c .before .before .before .content-length .ensures)
+    contents-are _ _ _ _ (c .before .before .header .given .0 .0) _ (c .before .before .header .given .1) (c .before .before .before .before .parse .ensures .1) (c .content-length .ensures)
 
 pub load-spec : {M : Type 1} → statement M
 load-spec =
@@ -27,9 +27,10 @@ load-spec =
     (λ c. search needs)
     (λ c. search needs)
     (λ c κs. search needs)
-    (λ c κs. search needs)
-    (λ c κs. rw (content-is (c .before)) (file-read _ _ (read-is (c .before .before .before .before .before)) .laid-out))
-    (λ c. let told = rw (c .before .refusal .given .1) at (c .before .before .before .parse .ensures) in (told .0, told .1, refl))
+    (λ c. contents-fit _ _ _ (c .content-length .ensures) (content-is c))
+    (λ c. rw (content-is (c .before)) (c .before .content-length .ensures))
+    (λ c κs. rw (content-is (c .before .before)) (file-read _ _ (read-is (c .before .before .before)) .laid-out))
+    (λ c. let told = rw (c .before .refusal .given .1) at (c .before .before .before .parse .ensures) in (told .0, refl))
     (λ c.
-    let told = rw (c .before .before .before .before .before .before .before .header .given .1) at (c .before .before .before .before .before .before .before .before .before .parse .ensures) in
-    (told .0, told .1, rw (content-is (c .before .before)) at (c .compile .ensures))))
+    let told = rw (c .before .before .before .before .before .header .given .1) at (c .before .before .before .before .before .before .before .parse .ensures) in
+    (told .0, rw (content-is (c .before .before .before)) at (c .compile .ensures))))

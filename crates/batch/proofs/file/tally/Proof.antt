@@ -14,8 +14,8 @@ use Rattle.batch.proofs.file.tally.Tie as tie
 -- the automaton is ready
 ready : (c : tie.After-known-told2) → let h = c .before .header .given .0 .0 in
     WithinLimits h
-    × Ready (automatonOf h (content (c .before .before .before .before .before .before .before .before .before .args .automaton .now))) h (c .before .before .before .prepare .last .1 .1 .0) (c .before .before .before .prepare .last .1 .1 .1 .0)
-ready c = prepared-ready _ _ _ _ _ _ _ (c .before .header .given .1) (c .before .before .before .prepare .ensures .2)
+    × Ready (automatonOf h (content (c .before .before .before .before .before .before .before .before .args .automaton .now))) h (c .before .before .before .prepare .last .1 .0) (c .before .before .before .prepare .last .1 .1 .0)
+ready c = prepared-ready _ _ _ _ _ _ _ (c .before .header .given .1) (c .before .before .before .prepare .ensures .1)
 
 prepare-requires : tie.Need-prepare-requires
 prepare-requires c κs = search needs

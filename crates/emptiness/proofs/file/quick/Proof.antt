@@ -29,7 +29,7 @@ enum-known-header c = search needs
 quick-prepared-requires : tie.Need-quick-prepared-requires
 quick-prepared-requires c κs =
     let told = c .before .before in
-    prepared-ready _ _ _ _ _ _ _ (told .before .header .given .1) (told .before .before .before .prepare .ensures .2) .0
+    prepared-ready _ _ _ _ _ _ _ (told .before .header .given .1) (told .before .before .before .prepare .ensures .1) .0
 
 returns : tie.Need-returns
 unfolding checked
@@ -39,7 +39,7 @@ returns-2 : tie.Need-returns-2
 unfolding checked
 returns-2 c =
     let told = c .before .before .before in
-    let ready = prepared-ready _ _ _ _ _ _ _ (told .before .header .given .1) (told .before .before .before .prepare .ensures .2) in
+    let ready = prepared-ready _ _ _ _ _ _ _ (told .before .header .given .1) (told .before .before .before .prepare .ensures .1) in
     both _ _ (rw (sym (told .before .before .before .prepare .ensures .0) ∙ told .before .header .given .1) (c .quick-prepared .ensures _ (ready .1)))
 
 pub quick-spec : {M : Type 1} → statement M

@@ -28,7 +28,7 @@ enum-known-header c = search needs
 survey-prepared-requires : tie.Need-survey-prepared-requires
 survey-prepared-requires c κs =
     let told = c .before .before .before in
-    prepared-ready _ _ _ _ _ _ _ (told .before .header .given .1) (told .before .before .before .prepare .ensures .2) .0
+    prepared-ready _ _ _ _ _ _ _ (told .before .header .given .1) (told .before .before .before .prepare .ensures .1) .0
 
 returns : tie.Need-returns
 unfolding surveyed
@@ -41,7 +41,7 @@ returns-2 : tie.Need-returns-2
 unfolding surveyed
 returns-2 c =
     let told = c .before .before .before .before .before .before in
-    let ready = prepared-ready _ _ _ _ _ _ _ (told .before .header .given .1) (told .before .before .before .prepare .ensures .2) in
+    let ready = prepared-ready _ _ _ _ _ _ _ (told .before .header .given .1) (told .before .before .before .prepare .ensures .1) in
     both _ _ _ (rw (sym (told .before .before .before .prepare .ensures .0) ∙ told .before .header .given .1) (c .before .before .survey-prepared .ensures _ (ready .1)))
 
 pub survey-spec : {M : Type 1} → statement M

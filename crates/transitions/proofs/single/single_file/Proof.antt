@@ -1,24 +1,20 @@
--- `transitions::single::single_file` meets its contract: by what reading says, and the contents that it lent.
+-- `transitions::single::single_file` meets its contract: by what loading says, of the file's automaton.
 -- Assumes nothing.
 use borrow.Author.Needs.{needs}
-use mathlib.Core.Path.{_≡_, sym, _∙_}
-use lib.ListN.{take}
-use Rattle.blocks.specs.Blocks.{content}
+use mathlib.Core.Path.{_≡_, refl, sym, ap, _∙_}
 use Rattle.automaton.specs.File.{parsed}
 use Rattle.automaton.specs.declared.file.Parsed.{Parsed}
-use Rattle.automaton.proofs.Passed.{file-read, contents-are, contents-fit}
-use Rattle.transitions.specs.Single.{singleOf}
+use Rattle.automaton.proofs.Passed.{file-limits}
+use Rattle.transitions.specs.Single.{singleIf, singleOf}
+use Rattle.transitions.specs.Transitions.{automatonOf}
+use Rattle.transitions.proofs.Determinism.{single-determined}
+use Rattle.transitions.proofs.Laws.{loaded-read}
 use Rattle.transitions.proofs.single.single_file.Statement.{statement}
 use Rattle.transitions.proofs.single.single_file.Tie as tie
 
 -- the file reads
 read-is : (c : tie.After-known-told2) → parsed (c .before .before .before .before .before .before .args .file .now) ≡ Parsed.Read (c .before .header .given .0 .0)
-read-is c = sym (c .before .before .before .parse .ensures .0) ∙ c .before .header .given .1
-
--- the part of the buffer that is lent on holds the joined contents
-content-is : (c : tie.After-content-length) → take (c .content-length .result) (c .before .before .before .before .parse .last .1 .0) ≡ content (c .before .before .before .before .before .before .before .args .file .now)
-content-is c =
-    contents-are _ _ _ _ (c .before .before .header .given .0 .0) _ (c .before .before .header .given .1) (c .before .before .before .before .parse .ensures .1) (c .content-length .ensures)
+read-is c = sym (c .before .before .before .load .ensures .0) ∙ c .before .header .given .1
 
 pub single-file-spec : {M : Type 1} → statement M
 unfolding singleOf
@@ -28,9 +24,9 @@ single-file-spec =
     (λ c κs. search needs)
     (λ c. search needs)
     (λ c. search needs)
-    (λ c κs. search needs)
-    (λ c. contents-fit _ _ _ (c .content-length .ensures) (content-is c))
-    (λ c. rw (content-is (c .before)) (c .before .content-length .ensures))
-    (λ c κs. rw (content-is (c .before)) (file-read _ _ (read-is (c .before .before)) .laid-out .rules))
-    (λ c. rw (sym (c .before .before .before .parse .ensures .0) ∙ c .before .refusal .given .1))
-    (λ c. rw (read-is (c .before .before .before)) (rw (content-is (c .before .before)) at (c .single-read .ensures))))
+    (λ c κs. file-limits _ _ (read-is (c .before)))
+    (λ c. rw (sym (c .before .before .before .load .ensures .0) ∙ c .before .refusal .given .1))
+    (λ c.
+    let told = c .before .before in
+    let compiled = loaded-read _ _ _ _ _ (told .before .header .given .1) (told .before .before .before .load .ensures .1) in
+    rw (read-is told) (c .single-prepared .ensures (automatonOf _ _) compiled refl refl ∙ ap singleIf (sym (single-determined _ _ (file-limits _ _ (read-is told) .0))))))
