@@ -28,7 +28,7 @@
 #define ENGINE_SURVEY_STACK (60 * 1024)
 #define ENGINE_WITNESS_STACK (20 * 1024)
 #define ENGINE_QUICK_STACK (52 * 1024)
-#define ENGINE_SINGLE_STACK (8 * 1024)
+#define ENGINE_SINGLE_STACK (44 * 1024)
 #define ENGINE_COUNT_STACK (4 * 1024)
 #define ENGINE_PERCENT_STACK (4 * 1024)
 #define ENGINE_TALLY_STACK (80 * 1024)
@@ -61,7 +61,8 @@ uint32_t engine_witness(const uint8_t *file, size_t length, const uint8_t *plan,
  * 0 clear: no tree is accepted, 1 unsure, 2 refused (number, file, place). */
 uint32_t engine_quick(const uint8_t *file, size_t length, size_t told[3]);
 
-/* Whether no two rules of an automaton meet at one symbol, state and place.
+/* Whether an automaton has at most one rule for each symbol, state and place. A rule with place 3 is one at each of its places, and equal
+ * rules are one rule.
  * 0 single, 1 not single, 2 refused (number, file, place). */
 uint32_t engine_single(const uint8_t *file, size_t length, size_t told[3]);
 

@@ -255,15 +255,10 @@ case('letter: 11 before 12', good, blocks(letter(left(65) + [0])), no(11, 1, 131
 # single, and W2
 
 
-def one(yes, count, steps): return ' single=%s' % ('yes' if yes else 'no'), ' rules=%d ' % count, ' transitions=%d' % steps
-
-
 def single_case(label, rules, yes, steps, n=2, m=3, branch=4):
     """A walker's rules, whether it is single, and how many rules are left once place 3 is spread and repeats are dropped."""
-    w = blocks(walker(n, m, rules, 1, 2, branch))
-    got = answer(w, None)
-    assert all(part in got + ' ' for part in one(yes, len(rules), steps)), (label, got)
-    case(label, w)
+    says = ' states=%d symbols=%d rules=%d initial=1 final=2 branches=%d single=%s transitions=%d'
+    case(label, blocks(walker(n, m, rules, 1, 2, branch)), None, says % (n, m, len(rules), branch, 'yes' if yes else 'no', steps))
 
 
 single_case('a record twice', A + [A[0]], True, 4)

@@ -55,10 +55,11 @@ impl Rule {
         self.place == EVERY_PLACE || usize::from(self.place) == place
     }
 
-    /// Whether two rules meet at one symbol, state and place.
-    fn meets(self, other: Rule) -> bool {
-        let at_one_place = (0..3).any(|place| self.applies_at(place) && other.applies_at(place));
-        self.symbol == other.symbol && self.state == other.state && at_one_place
+    /// The rule at each place where it applies, as bytes.
+    fn spread(self) -> impl Iterator<Item = [u8; 5]> {
+        (0..EVERY_PLACE)
+            .filter(move |&place| self.applies_at(place.into()))
+            .map(move |place| Rule { place, ..self }.bytes())
     }
 
     /// Refusals 8 and 9: the number, where there is one.
@@ -85,10 +86,13 @@ impl Automaton {
         self.branches >> symbol & 1 == 1
     }
 
-    /// Whether no two rules meet.
+    /// Whether no two rules have one symbol, state and place, with place 3 spread and equal rules taken once (document 02, W2): sorted, two
+    /// such rules would stand side by side.
     pub fn is_single(&self) -> bool {
-        let meets_later = |(i, rule): (usize, &Rule)| self.rules[i + 1..].iter().any(|later| rule.meets(*later));
-        !self.rules.iter().enumerate().any(meets_later)
+        let mut rules: Vec<[u8; 5]> = self.rules.iter().flat_map(|rule| rule.spread()).collect();
+        rules.sort_unstable();
+        rules.dedup();
+        rules.windows(2).all(|pair| pair[0][..3] != pair[1][..3])
     }
 
     /// Reads a file. Refusals 1 to 9.

@@ -15,6 +15,11 @@ pub fn survey(file: &[u8]) -> Result<Survey, Refusal> {
     }
 }
 
+/// Whether the automaton of a file is single, or its refusal.
+pub fn single(file: &[u8]) -> Result<bool, Refusal> {
+    ::engine::single(file).map_err(refusal)
+}
+
 /// The engine's tally of trees' files end to end.
 pub fn tally(automaton: &[u8], trees: &[u8]) -> Result<Tally, Refusal> {
     let mut tally = ::engine::Tally::default();

@@ -1,5 +1,5 @@
-//! Judging, the survey, the quick check and single in Rust, written from document 01 alone; and the measuring of judging and the
-//! survey: the engine beside these. One call takes the bytes of an automaton's file and of trees' files end to end, and gives the
+//! Judging, the survey, the quick check and single in Rust, written from documents 01 and 02 alone; and the measuring of judging, the
+//! survey and single: the engine beside these. One call takes the bytes of an automaton's file and of trees' files end to end, and gives the
 //! tally; or the bytes of an automaton's file, and gives the survey's verdict and plan.
 pub mod agreement;
 pub mod automaton;
@@ -16,6 +16,8 @@ pub mod quick;
 pub mod random;
 mod report;
 pub mod shapes;
+#[cfg(feature = "engine")]
+mod singles;
 pub mod survey;
 #[cfg(feature = "engine")]
 mod surveys;
@@ -66,5 +68,7 @@ pub fn run() -> Result<(), String> {
     report::print(&measure::measure()?);
     #[cfg(feature = "engine")]
     surveys::run()?;
+    #[cfg(feature = "engine")]
+    singles::run()?;
     Ok(())
 }

@@ -126,7 +126,8 @@ pub fn quick(file: &[u8]) -> Result<Quick, Refusal> {
     }
 }
 
-/// Whether no two rules of an automaton's file meet.
+/// Whether an automaton's file has at most one rule for each symbol, state and place: a rule with place 3 is one at each of its places, and equal
+/// rules are one rule.
 pub fn single(file: &[u8]) -> Result<bool, Refusal> {
     match declared::single(file) {
         (0, _) => Ok(true),

@@ -178,19 +178,3 @@ fn quick_checks() {
     println!("clear, unsure, refused: {counts:?}");
     assert!(counts.iter().all(|&count| count > 10));
 }
-
-#[test]
-fn single_automata() {
-    let mut counts = [0; 3];
-    for (number, file) in small_automata().chain(large_automata()).enumerate() {
-        let answer = engine::single(&file);
-        assert_eq!(answer, in_automaton(Automaton::read(&file)).map(|one| one.is_single()), "automaton {number}");
-        counts[match answer {
-            Ok(true) => 0,
-            Ok(false) => 1,
-            Err(_) => 2,
-        }] += 1;
-    }
-    println!("single, not single, refused: {counts:?}");
-    assert!(counts.iter().all(|&count| count > 10));
-}

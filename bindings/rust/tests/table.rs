@@ -87,7 +87,7 @@ fn automata() {
 #[test]
 fn blocks_needed() {
     let of = |count: usize| Automaton { rules: vec![rule(RULES[0]); count], ..example() };
-    assert_eq!(single(&of(97).write()), Ok(false));
+    assert_eq!(single(&of(97).write()), Ok(true));
     assert_eq!((of(97).write().len(), of(98).write().len()), (512, 1024));
     automaton_refused(&padded(&of(97).write()[..508], 2), 5, 1);
     let mut damaged = of(98).write();

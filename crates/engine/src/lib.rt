@@ -14,6 +14,7 @@ ghost use Rattle.emptiness.specs.Surveyed.{answered, surveyed};
 ghost use Rattle.emptiness.specs.Checked.{checked};
 ghost use Rattle.emptiness.specs.Demand3.{Demand3, Demand3Quick};
 ghost use Rattle.transitions.specs.Single.{singleOf};
+ghost use Rattle.transitions.specs.Singles.{SingleRight};
 ghost use Rattle.tally.specs.Tally.{countedUp, percentOf};
 ghost use Rattle.batch.specs.Batch.{talliedOf};
 ghost use Rattle.text.specs.Appended.{Appended};
@@ -53,9 +54,10 @@ pub fn quick(file: &[u8]) -> emptiness::Quick
     emptiness::file::quick(file)
 }
 
-// Whether the automaton of a file is single.
+// Whether the automaton of a file is single: its rules, equal ones taken once, are one at the most for each symbol, state and place.
 pub fn single(file: &[u8]) -> Singleness
-    ensures { λ r. ⌜ r ≡ singleOf (now (file .entry)) ⌝ }
+    ensures equals { λ r. ⌜ r ≡ singleOf (now (file .entry)) ⌝ }
+    ensures right { λ r. ⌜ SingleRight (now (file .entry)) r ⌝ }
 {
     transitions::single::single_file(file)
 }

@@ -5,6 +5,7 @@ use emptiness::Quick;
 use emptiness::Survey;
 use membership::Answer;
 use tally::Tally;
+use transitions::single::Singleness;
 use witness::Written;
 ghost use mathlib.Core.Path.{_≡_};
 ghost use Rattle.membership.specs.Judged.{judged};
@@ -13,6 +14,7 @@ ghost use Rattle.emptiness.specs.Surveyed.{answered, surveyed};
 ghost use Rattle.emptiness.specs.Checked.{checked};
 ghost use Rattle.emptiness.specs.Demand3.{Demand3, Demand3Quick};
 ghost use Rattle.transitions.specs.Single.{singleOf};
+ghost use Rattle.transitions.specs.Singles.{SingleRight};
 ghost use Rattle.tally.specs.Tally.{countedUp, percentOf};
 ghost use Rattle.batch.specs.Batch.{talliedOf};
 ghost use Rattle.text.specs.Appended.{Appended};
@@ -73,7 +75,8 @@ pub extern "C" fn engine_quick(file: &[u8], told: &mut [usize; 3]) -> u32
 // Whether the automaton of a file is single.
 #[no_mangle]
 pub extern "C" fn engine_single(file: &[u8], told: &mut [usize; 3]) -> u32
-    ensures { λ r. ⌜ (r ≡ singleNumber (singleOf (now (file .entry)))) × (now (told .exit) ≡ singleTold (singleOf (now (file .entry)))) ⌝ }
+    ensures equals { λ r. ⌜ (r ≡ singleNumber (singleOf (now (file .entry)))) × (now (told .exit) ≡ singleTold (singleOf (now (file .entry)))) ⌝ }
+    ensures right { λ r. ⌜ ((a : Singleness) × (r ≡ singleNumber a) × (now (told .exit) ≡ singleTold a) × SingleRight (now (file .entry)) a) ⌝ }
 {
     numbering::put_single(crate::single(file), told)
 }

@@ -54,7 +54,7 @@ fn seal_block(file: &mut [u8], block: usize) {
 }
 
 // Writes the checks of a file whose payload has the length, and gives back the file's own length.
-fn seal(file: &mut [u8], payload: usize) -> usize
+pub fn seal(file: &mut [u8], payload: usize) -> usize
     ensures { λ r. ⌜ r ≤ 131072 ⌝ }
 {
     let blocks = (payload % 65536 + 507) / 508;

@@ -112,6 +112,34 @@ fn compare_spoiled(
     compare(counts, family, files::front(&file, n), refused(2, at / 512));
 }
 
+// A file whose kind is another, or a byte that has to be zero, or that has a block too many; its checks are right.
+fn compare_sealed(
+    counts: &mut [usize],
+    random: &mut u64,
+    family: usize,
+    a: Automaton,
+    records: &[u8],
+) {
+    let mut file = [0u8; 3072];
+    let n = files::write_automaton(&mut file, a, records);
+    let payload = 20 + 5 * (a.rules % 1024);
+    let by = draw(random, 255);
+    let expected = match draw(random, if n < 3072 { 4 } else { 3 }) {
+        0 => refused(3, 0),
+        1 => refused(6, 3),
+        2 => refused(6, 6),
+        _ => refused(5, n / 512),
+    };
+    if expected.number == 5 {
+        let more = files::seal(&mut file, payload + 508);
+        compare(counts, family, files::front(&file, more), expected);
+    } else {
+        files::damage(&mut file, expected.place, by);
+        files::seal(&mut file, payload);
+        compare(counts, family, files::front(&file, n), expected);
+    }
+}
+
 // Counts or sets that are out of their limits; the records stay.
 fn compare_header(
     counts: &mut [usize],
@@ -177,9 +205,10 @@ fn compare_damaged(
     a: Automaton,
     records: &mut [u8],
 ) {
-    match draw(random, 4) {
+    match draw(random, 6) {
         0 => compare_spoiled(counts, random, family, a, records),
-        1 => compare_header(counts, random, family, a, records),
+        1 => compare_sealed(counts, random, family, a, records),
+        2 => compare_header(counts, random, family, a, records),
         _ => compare_record(counts, random, family, a, records),
     }
 }

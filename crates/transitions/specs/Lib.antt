@@ -3,4 +3,5 @@ pub mod Transitions
 pub mod Compiled
 pub mod Spread
 pub mod Single
+pub mod Singles
 pub mod Determined

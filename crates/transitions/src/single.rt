@@ -17,6 +17,7 @@ ghost use Rattle.automaton.specs.File.{WithinLimits};
 ghost use Rattle.transitions.specs.Compiled.{nextIn, Compiled};
 ghost use Rattle.transitions.specs.Determined.{oneChoice, oneEach, onePlaces, oneSymbols, determined};
 ghost use Rattle.transitions.specs.Single.{singleIf, singleOf};
+ghost use Rattle.transitions.specs.Singles.{SingleRight};
 
 // What is told of a file: whether its automaton is single, or its refusal.
 pub enum Singleness {
@@ -103,7 +104,8 @@ pub fn single_prepared(header: Header, table: &TransitionTable) -> Singleness
 
 // Whether the automaton of a file is single, or the file's refusal.
 pub fn single_file(file: &[u8]) -> Singleness
-    ensures { λ r. ⌜ r ≡ singleOf (now (file .entry)) ⌝ }
+    ensures equals { λ r. ⌜ r ≡ singleOf (now (file .entry)) ⌝ }
+    ensures right { λ r. ⌜ SingleRight (now (file .entry)) r ⌝ }
 {
     let mut table = [0u32; 9216];
     match crate::load(file, &mut table) {

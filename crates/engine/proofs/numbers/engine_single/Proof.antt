@@ -1,4 +1,4 @@
--- `engine::numbers::engine_single` meets its contract: it is `single`, with the answer as numbers.
+-- `engine::numbers::engine_single` meets its contract: it is `single`, with the answer as numbers; that answer is right.
 -- Assumes nothing.
 use borrow.Author.Needs.{needs}
 use mathlib.Core.Path.{ap, _∙_}
@@ -11,7 +11,8 @@ engine-single-spec = tie.close (tie.spec
     (λ c κs. search needs)
     (λ c κs. search needs)
     (λ c.
-    let e = c .before .before .single .ensures in (
-      c .put-single .ensures .0 ∙ ap singleNumber e,
-      c .put-single .ensures .1 ∙ ap singleTold e,
+    let answer = c .before .before .single in
+    let e = answer .ensures .0 in (
+      (c .put-single .ensures .0 ∙ ap singleNumber e, c .put-single .ensures .1 ∙ ap singleTold e),
+      (answer .result, c .put-single .ensures .0, c .put-single .ensures .1, answer .ensures .1),
     )))

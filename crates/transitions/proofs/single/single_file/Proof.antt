@@ -1,16 +1,25 @@
--- `transitions::single::single_file` meets its contract: by what loading says, of the file's automaton.
+-- `transitions::single::single_file` meets its contract: by what loading says, of the file's automaton. What that means is then a law of the
+-- definition.
 -- Assumes nothing.
 use borrow.Author.Needs.{needs}
+use Prim.Native.Nat.{ℕ}
 use mathlib.Core.Path.{_≡_, refl, sym, ap, _∙_}
+use mathlib.Core.List.{List}
 use Rattle.automaton.specs.File.{parsed}
 use Rattle.automaton.specs.declared.file.Parsed.{Parsed}
 use Rattle.automaton.proofs.Passed.{file-limits}
 use Rattle.transitions.specs.Single.{singleIf, singleOf}
+use Rattle.transitions.specs.Singles.{SingleRight}
+use Rattle.transitions.specs.declared.single.Singleness.{Singleness}
 use Rattle.transitions.specs.Transitions.{automatonOf}
-use Rattle.transitions.proofs.Determinism.{single-determined}
+use Rattle.transitions.proofs.Determinism.{single-determined, single-right}
 use Rattle.transitions.proofs.Laws.{loaded-read}
 use Rattle.transitions.proofs.single.single_file.Statement.{statement}
 use Rattle.transitions.proofs.single.single_file.Tie as tie
+
+-- what is equal to the definition's answer is right
+both : (s : List ℕ) (r : Singleness) → r ≡ singleOf s → (r ≡ singleOf s) × SingleRight s r
+both s r e = (e, rw e (single-right s))
 
 -- the file reads
 read-is : (c : tie.After-known-told2) → parsed (c .before .before .before .before .before .before .args .file .now) ≡ Parsed.Read (c .before .header .given .0 .0)
@@ -25,8 +34,8 @@ single-file-spec =
     (λ c. search needs)
     (λ c. search needs)
     (λ c κs. file-limits _ _ (read-is (c .before)))
-    (λ c. rw (sym (c .before .before .before .load .ensures .0) ∙ c .before .refusal .given .1))
+    (λ c. both _ _ (rw (sym (c .before .before .before .load .ensures .0) ∙ c .before .refusal .given .1)))
     (λ c.
     let told = c .before .before in
     let compiled = loaded-read _ _ _ _ _ (told .before .header .given .1) (told .before .before .before .load .ensures .1) in
-    rw (read-is told) (c .single-prepared .ensures (automatonOf _ _) compiled refl refl ∙ ap singleIf (sym (single-determined _ _ (file-limits _ _ (read-is told) .0))))))
+    both _ _ (rw (read-is told) (c .single-prepared .ensures (automatonOf _ _) compiled refl refl ∙ ap singleIf (sym (single-determined _ _ (file-limits _ _ (read-is told) .0)))))))
