@@ -1,6 +1,5 @@
 -- Single automata, in three ways that are one: no two spread rules for a symbol, a state and a place (`single-has`), the paper's Definition 19
--- (`single-deterministic`), and what the compiled transitions tell (`single-determined`, `table-determined`); so that what is told of a file is right
--- (`single-right`). Assumes nothing.
+-- (`single-deterministic`), and what the compiled transitions tell (`single-determined`, `table-determined`). Assumes nothing.
 use Prim.Native.Nat.{ℕ, zero, suc, _+_, _<_, _≤_}
 use mathlib.Core.Path.{_≡_, refl, sym, ap, ap₂, subst, _∙_}
 use mathlib.Core.Logic.{_⊎_, inl, inr, ⊎-elim, _↔_}
@@ -22,9 +21,7 @@ use Rattle.model.specs.declared.Symbol.{Symbol}
 use Rattle.model.specs.Lists.{_∈_}
 use Rattle.model.specs.Runs.{Deterministic}
 use Rattle.algorithms.specs.Automaton.{Automaton, Δ}
-use Rattle.blocks.specs.Blocks.{content}
-use Rattle.refusal.specs.declared.Refusal.{Refusal}
-use Rattle.refusal.proofs.Passed.{clash, and-is-true}
+use Rattle.refusal.proofs.Passed.{and-is-true}
 use Rattle.automaton.specs.Payload.{placeByte, moveByte}
 use Rattle.automaton.specs.Rules.{rule}
 use Rattle.automaton.specs.declared.Header.{Header}
@@ -35,9 +32,7 @@ use Rattle.automaton.proofs.Passed.{rule-in}
 use Rattle.transitions.specs.Transitions.{automatonOf}
 use Rattle.transitions.specs.Compiled.{nextIn, Compiled}
 use Rattle.transitions.specs.Spread.{spreadRules}
-use Rattle.transitions.specs.Single.{Single, meet, equal, agree, agreesWith, single, singleIf, singleOf}
-use Rattle.transitions.specs.Singles.{SingleRight}
-use Rattle.transitions.specs.declared.single.Singleness.{Singleness}
+use Rattle.transitions.specs.Single.{Single, meet, equal, agree, agreesWith, single}
 use Rattle.transitions.specs.Determined.{Next, choices, oneChoice, oneEach, onePlaces, oneSymbols, determined}
 use Rattle.transitions.proofs.Each.{each-has, each-same}
 use Rattle.transitions.proofs.Meaning.{transition-has}
@@ -283,25 +278,3 @@ table-determined A t compiled few-symbols few-states =
     let cell : (μ : Move) → ones (nextIn t σ τ μ p) ≡ ones (A .next σ τ μ p) = λ μ. ap ones (compiled .cells σ τ μ p (omega arith) (omega arith)) in
     ap (λ (n : ℕ). leb n 1) (ap₂ _+_ (ap₂ _+_ (ap₂ _+_ (cell Move.Stay) (cell Move.Up)) (cell (Move.Down Side.Left))) (cell (Move.Down Side.Right)))) in
     ap₂ _&&_ (ap₂ _&&_ (at Place.Root) (at (Place.Child Side.Left))) (at (Place.Child Side.Right)))
-
--- ---- what is told of a file
-
-single-told : (b : Bool) → (singleIf b ≡ Singleness.Single) ↔ (b ≡ true)
-single-told true = (λ e. refl, λ e. refl)
-single-told false = (λ e. clash (cc), λ e. clash (cc))
-
-not-refused : (b : Bool) (x : Refusal) → ¬ (singleIf b ≡ Singleness.Refused x)
-not-refused true x e = clash (cc)
-not-refused false x e = clash (cc)
-
-pub single-right : (s : List ℕ) → SingleRight s (singleOf s)
-unfolding singleOf
-single-right s h e =
-    let rules = spreadRules h (content s) in
-    let told = single-told (single rules) in
-    rw e
-    (record {
-      rules = (λ f. single-has rules .0 (told .0 f), λ one. told .1 (single-has rules .1 one));
-      deterministic = (λ f. single-deterministic h (content s) .0 (told .0 f), λ one. told .1 (single-deterministic h (content s) .1 one));
-      no-refusal = not-refused (single rules);
-    })

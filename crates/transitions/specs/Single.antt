@@ -30,6 +30,7 @@ equal a b = meet a b && eqb (moveByte (a .step)) (moveByte (b .step)) && eqb (a 
 abbrev pub agree : Rule → Rule → Bool
 agree a b = not (meet a b) || equal a b
 
+-- a rule agrees with each of these
 unfoldable pub agreesWith : Rule → List Rule → Bool
 agreesWith r [] = true
 agreesWith r (s ∷ rules) = agree r s && agreesWith r rules

@@ -12,8 +12,9 @@ use Rattle.transitions.specs.Single.{singleIf, singleOf}
 use Rattle.transitions.specs.Singles.{SingleRight}
 use Rattle.transitions.specs.declared.single.Singleness.{Singleness}
 use Rattle.transitions.specs.Transitions.{automatonOf}
-use Rattle.transitions.proofs.Determinism.{single-determined, single-right}
+use Rattle.transitions.proofs.Determinism.{single-determined}
 use Rattle.transitions.proofs.Laws.{loaded-read}
+use Rattle.transitions.proofs.RepeatedRecords.{single-right}
 use Rattle.transitions.proofs.single.single_file.Statement.{statement}
 use Rattle.transitions.proofs.single.single_file.Tie as tie
 

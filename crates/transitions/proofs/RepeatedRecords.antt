@@ -1,18 +1,21 @@
--- "No run changes, since a rule met twice allows the same step" (document 02, W2): the automaton of a file comes from its counts, its sets and
--- the set of its spread rules, and these from it (`same-automaton`). So files that agree in these get one answer (`same-answer`) and are single
--- together (`same-single`): neither order nor repeats of the records matter. Assumes nothing.
+-- The laws of document 02's W2. What is told of a file that reads is so of the set of its spread rules, and of its automaton (`single-right`);
+-- neither order nor repeats of the records matter to it (`same-single`), nor to the automaton (`same-automaton`), its runs (`same-runs`) and
+-- every answer by it (`same-answer`). Assumes nothing.
 use Prim.Native.Nat.{ℕ}
 use mathlib.Core.Path.{_≡_, refl, sym, ap, subst}
 use mathlib.Core.Logic.{_↔_}
+use mathlib.Core.Bool.{Bool, true, false}
 use mathlib.Core.List.{List}
 use Rattle.relation.proofs.Pairs.{same-set}
 use Rattle.model.specs.declared.Place.{Place}
 use Rattle.model.specs.declared.Move.{Move}
 use Rattle.model.specs.Lists.{_∈_}
 use Rattle.model.specs.Trees.{Tree}
+use Rattle.model.specs.Runs.{Config, Run}
 use Rattle.algorithms.specs.Automaton.{Automaton, Δ, Accepted}
 use Rattle.blocks.specs.Blocks.{content}
 use Rattle.refusal.specs.declared.Refusal.{Refusal}
+use Rattle.refusal.proofs.Passed.{clash}
 use Rattle.automaton.specs.File.{parsed}
 use Rattle.automaton.specs.Rules.{rule}
 use Rattle.automaton.specs.declared.Header.{Header}
@@ -21,9 +24,44 @@ use Rattle.automaton.specs.declared.Scope.{Scope}
 use Rattle.automaton.specs.declared.file.Parsed.{Parsed}
 use Rattle.transitions.specs.Transitions.{automatonOf, byAutomaton}
 use Rattle.transitions.specs.Spread.{spreadRules, SameRules, SameCounts}
-use Rattle.transitions.specs.Single.{Single, single}
-use Rattle.transitions.proofs.Determinism.{single-has, same-test}
+use Rattle.transitions.specs.Single.{Single, single, singleIf, singleOf}
+use Rattle.transitions.specs.Singles.{SingleRight}
+use Rattle.transitions.specs.declared.single.Singleness.{Singleness}
+use Rattle.transitions.proofs.Determinism.{single-has, single-deterministic, same-test}
 use Rattle.transitions.proofs.Spreading.{rule-same, spread-transition, spread-rule}
+
+-- ---- "Equal rules, after place 3 is spread over its places, count as the same rule when we say whether a walker is single."
+
+single-told : (b : Bool) → (singleIf b ≡ Singleness.Single) ↔ (b ≡ true)
+single-told true = (λ e. refl, λ e. refl)
+single-told false = (λ e. clash (cc), λ e. clash (cc))
+
+not-refused : (b : Bool) (x : Refusal) → ¬ (singleIf b ≡ Singleness.Refused x)
+not-refused true x e = clash (cc)
+not-refused false x e = clash (cc)
+
+pub single-right : (s : List ℕ) → SingleRight s (singleOf s)
+unfolding singleOf
+single-right s h e =
+    let rules = spreadRules h (content s) in
+    let told = single-told (single rules) in
+    rw e
+    (record {
+      rules = (λ f. single-has rules .0 (told .0 f), λ one. told .1 (single-has rules .1 one));
+      deterministic = (λ f. single-deterministic h (content s) .0 (told .0 f), λ one. told .1 (single-deterministic h (content s) .1 one));
+      no-refusal = not-refused (single rules);
+    })
+
+-- lists with the same members are single together
+pub same-single : (xs ys : List Rule) → SameRules xs ys → single xs ≡ single ys
+same-single xs ys same =
+    same-test (single xs) (single ys) (single-has xs)
+    (λ e. among (λ r. same r .0) (single-has ys .0 e), λ one. single-has ys .1 (among (λ r. same r .1) one))
+  where
+    among : {xs ys : List Rule} → ((r : Rule) → r ∈ xs → r ∈ ys) → Single (λ (r : Rule). r ∈ ys) → Single (λ (r : Rule). r ∈ xs)
+    among f one = record { one-rule = λ a b m k. one .one-rule a b (f a m) (f b k) }
+
+-- ---- "No run changes, since a rule met twice allows the same step."
 
 module _ (h h′ : Header) (p p′ : List ℕ) where
   -- the same transitions
@@ -47,6 +85,10 @@ module _ (h h′ : Header) (p p′ : List ℕ) where
         branches = counts .branches i;
         next = λ σ τ μ s. same-next same σ τ μ s i;
       }
+
+-- what is so of one of two equal automata is so of the other
+over : {A B : Automaton} (P : Automaton → Type 0) → A ≡ B → P A ↔ P B
+over P e = (subst P e, subst P (sym e))
 
 -- a spread rule of one file is one of each file with the same automaton
 moved : (h h′ : Header) (p p′ : List ℕ) → automatonOf h p ≡ automatonOf h′ p′ → (r : Rule) → r ∈ spreadRules h p → r ∈ spreadRules h′ p′
@@ -72,11 +114,13 @@ module _ (h h′ : Header) (p p′ : List ℕ) where
     ),
   )
 
-  -- the same runs accept
-  pub same-accepted : SameCounts h h′ → SameRules (spreadRules h p) (spreadRules h′ p′) → (t : Tree) → Accepted (automatonOf h p) t ↔ Accepted (automatonOf h′ p′) t
-  same-accepted counts same t =
-      let e = one-automaton h h′ p p′ counts same in
-      (subst (λ (A : Automaton). Accepted A t) e, subst (λ (A : Automaton). Accepted A t) (sym e))
+  -- every run of the one is a run of the other; so they accept the same trees
+  module _ (counts : SameCounts h h′) (same : SameRules (spreadRules h p) (spreadRules h′ p′)) (t : Tree) where
+    pub same-runs : (τ : Place) (c c′ : Config) → Run (Δ (automatonOf h p)) τ t c c′ ↔ Run (Δ (automatonOf h′ p′)) τ t c c′
+    same-runs τ c c′ = over (λ A. Run (Δ A) τ t c c′) (one-automaton h h′ p p′ counts same)
+
+    pub same-accepted : Accepted (automatonOf h p) t ↔ Accepted (automatonOf h′ p′) t
+    same-accepted = over (λ A. Accepted A t) (one-automaton h h′ p p′ counts same)
 
 -- judging, survey, quick check and tally answer the same
 module _ {ℓ} {X : Type ℓ} where
@@ -84,12 +128,3 @@ module _ {ℓ} {X : Type ℓ} where
       → SameRules (spreadRules h (content s)) (spreadRules h′ (content s′)) → (refused : Refusal → X) (read : Automaton → X)
       → byAutomaton s refused read ≡ byAutomaton s′ refused read
   same-answer s s′ h h′ e e′ counts same refused read = rw (e, e′) (ap read (one-automaton h h′ (content s) (content s′) counts same))
-
--- single is of the set of spread rules
-pub same-single : (xs ys : List Rule) → SameRules xs ys → single xs ≡ single ys
-same-single xs ys same =
-    same-test (single xs) (single ys) (single-has xs)
-    (λ e. over (λ r. same r .0) (single-has ys .0 e), λ one. single-has ys .1 (over (λ r. same r .1) one))
-  where
-    over : {xs ys : List Rule} → ((r : Rule) → r ∈ xs → r ∈ ys) → Single (λ (r : Rule). r ∈ ys) → Single (λ (r : Rule). r ∈ xs)
-    over f one = record { one-rule = λ a b m k. one .one-rule a b (f a m) (f b k) }
