@@ -25,15 +25,15 @@ use Rattle.transitions.proofs.Meaning.{transition-has}
 pub rule-same : (a b : Rule) → a .symbol .0 ≡ b .symbol .0 → a .state .0 ≡ b .state .0 → a .scope ≡ b .scope → a .step ≡ b .step → a .next .0 ≡ b .next .0 → a ≡ b
 rule-same a b e f g k l = λ i. rule (e i) (f i) (g i) (k i) (l i)
 
-covered : (t : Scope) (τ : Place) → Covers t τ → τ ∈ placesOf t
-covered (Scope.Only π) τ c = List·Memᴰ·head (sym c)
-covered Scope.Every Place.Root c = List·Memᴰ·head refl
-covered Scope.Every (Place.Child Side.Left) c = List·Memᴰ·tail (List·Memᴰ·head refl)
-covered Scope.Every (Place.Child Side.Right) c = List·Memᴰ·tail (List·Memᴰ·tail (List·Memᴰ·head refl))
+mem-cover : (t : Scope) (τ : Place) → Covers t τ → τ ∈ placesOf t
+mem-cover (Scope.Only π) τ c = List·Memᴰ·head (sym c)
+mem-cover Scope.Every Place.Root c = List·Memᴰ·head refl
+mem-cover Scope.Every (Place.Child Side.Left) c = List·Memᴰ·tail (List·Memᴰ·head refl)
+mem-cover Scope.Every (Place.Child Side.Right) c = List·Memᴰ·tail (List·Memᴰ·tail (List·Memᴰ·head refl))
 
-covers : (t : Scope) (τ : Place) → τ ∈ placesOf t → Covers t τ
-covers (Scope.Only π) τ m = ⊎-elim sym (λ k. absurd (List·Memᴰ·not-nil k)) (List·Memᴰ·cases-cons m)
-covers Scope.Every τ m = tt
+cover-mem : (t : Scope) (τ : Place) → τ ∈ placesOf t → Covers t τ
+cover-mem (Scope.Only π) τ m = ⊎-elim sym (λ k. absurd (List·Memᴰ·not-nil k)) (List·Memᴰ·cases-cons m)
+cover-mem Scope.Every τ m = tt
 
 module _ (s r : Rule) where
   mem-places : (τs : List Place) (τ : Place) → τ ∈ τs → r ≡ atPlace s τ → r ∈ map (atPlace s) τs
@@ -55,14 +55,14 @@ module _ (s r : Rule) where
         (
           sym (ap (λ (x : Rule). x .symbol .0) e),
           sym (ap (λ (x : Rule). x .state .0) e),
-          covers (s .scope) (k .0) (k .1),
+          cover-mem (s .scope) (k .0) (k .1),
           sym (ap (λ (x : Rule). x .step) e),
           sym (ap (λ (x : Rule). x .next .0) e),
         ),
       )
 
   applies-spread : (τ : Place) → r .scope ≡ Scope.Only τ → Applies s (r .symbol .0) (r .state .0) τ (r .step) (r .next .0) → r ∈ spread (RuleBytes.Known s)
-  applies-spread τ e (a, b, c, d, f) = mem-places (placesOf (s .scope)) τ (covered (s .scope) τ c) (rule-same r (atPlace s τ) (sym a) (sym b) e (sym d) (sym f))
+  applies-spread τ e (a, b, c, d, f) = mem-places (placesOf (s .scope)) τ (mem-cover (s .scope) τ c) (rule-same r (atPlace s τ) (sym a) (sym b) e (sym d) (sym f))
 
 -- ---- the records one by one
 
