@@ -3,9 +3,9 @@
 // the label and the files. tools/make_cases.py makes the cases and, from document 01 alone, the lines that are expected.
 use automaton::Header;
 use automaton::file::Parsed;
+use determinism::Singleness;
 use model::Signature;
 use refusal::Refusal;
-use transitions::single::Singleness;
 use tree::file::ParsedTree;
 ghost use Prim.Native.Nat.{_+_, _≤_};
 ghost use lib.ListN.{length};
@@ -38,7 +38,7 @@ fn transitions_of(table: &[u32; 9216]) -> u64 {
 }
 
 fn print_single(file: &[u8]) {
-    match transitions::single::single_file(file) {
+    match determinism::single_file(file) {
         Singleness::Single => {
             io::write_all(1, b" single=yes");
         }

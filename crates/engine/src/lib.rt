@@ -1,20 +1,20 @@
 // The engine's public functions, over the bytes of files; none asks anything of its caller. `numbers` has the same for Rust and C.
 pub mod numbers;
 
+use determinism::Singleness;
 use membership::Answer;
 use refusal::Check;
 use tally::Outcome;
 use tally::Tallied;
 use tally::Tally;
-use transitions::single::Singleness;
 ghost use mathlib.Core.Path.{_≡_};
 ghost use Rattle.membership.specs.Judged.{judged};
 ghost use Rattle.membership.specs.Demand2.{Demand2};
 ghost use Rattle.emptiness.specs.Surveyed.{answered, surveyed};
 ghost use Rattle.emptiness.specs.Checked.{checked};
 ghost use Rattle.emptiness.specs.Demand3.{Demand3, Demand3Quick};
-ghost use Rattle.transitions.specs.Single.{singleOf};
-ghost use Rattle.transitions.specs.Singles.{SingleRight};
+ghost use Rattle.determinism.specs.Single.{singleOf};
+ghost use Rattle.determinism.specs.Singles.{SingleRight};
 ghost use Rattle.tally.specs.Tally.{countedUp, percentOf};
 ghost use Rattle.batch.specs.Batch.{talliedOf};
 ghost use Rattle.text.specs.Appended.{Appended};
@@ -59,7 +59,7 @@ pub fn single(file: &[u8]) -> Singleness
     ensures equals { λ r. ⌜ r ≡ singleOf (now (file .entry)) ⌝ }
     ensures right { λ r. ⌜ SingleRight (now (file .entry)) r ⌝ }
 {
-    transitions::single::single_file(file)
+    determinism::single_file(file)
 }
 
 // The lent tally counts one outcome more; or, where it is full, stays as it was, and refusal 14 is the answer.

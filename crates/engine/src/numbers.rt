@@ -1,11 +1,11 @@
 // The engine's functions for Rust and C, on numbers and bytes; bindings/engine.h has their C declarations. Each answers a number, and leaves
 // three more in `told`: those of the answer, or of a refusal its number, file and place; what is missing is 0. `right` says that these are
 // the numbers of an answer that meets the demand.
+use determinism::Singleness;
 use emptiness::Quick;
 use emptiness::Survey;
 use membership::Answer;
 use tally::Tally;
-use transitions::single::Singleness;
 use witness::Written;
 ghost use mathlib.Core.Path.{_≡_};
 ghost use Rattle.membership.specs.Judged.{judged};
@@ -13,8 +13,8 @@ ghost use Rattle.membership.specs.Demand2.{Demand2};
 ghost use Rattle.emptiness.specs.Surveyed.{answered, surveyed};
 ghost use Rattle.emptiness.specs.Checked.{checked};
 ghost use Rattle.emptiness.specs.Demand3.{Demand3, Demand3Quick};
-ghost use Rattle.transitions.specs.Single.{singleOf};
-ghost use Rattle.transitions.specs.Singles.{SingleRight};
+ghost use Rattle.determinism.specs.Single.{singleOf};
+ghost use Rattle.determinism.specs.Singles.{SingleRight};
 ghost use Rattle.tally.specs.Tally.{countedUp, percentOf};
 ghost use Rattle.batch.specs.Batch.{talliedOf};
 ghost use Rattle.text.specs.Appended.{Appended};

@@ -6,7 +6,7 @@ use mathlib.Core.List.{List, [], _∷_}
 use lib.ListN.{getD}
 use Rattle.refusal.specs.declared.Check.{Check}
 use Rattle.refusal.specs.declared.Refusal.{Refusal}
-use Rattle.transitions.specs.declared.single.Singleness.{Singleness}
+use Rattle.determinism.specs.declared.Singleness.{Singleness}
 use Rattle.membership.specs.declared.Answer.{Answer}
 use Rattle.emptiness.specs.declared.Survey.{Survey}
 use Rattle.emptiness.specs.declared.Quick.{Quick}

@@ -8,8 +8,8 @@ use Rattle.automaton.specs.File.{readAutomaton}
 use Rattle.automaton.specs.declared.Header.{Header}
 use Rattle.transitions.specs.Transitions.{automatonOf}
 use Rattle.transitions.specs.Spread.{spreadRules}
-use Rattle.transitions.specs.Single.{single, singleIf}
-use Rattle.transitions.specs.declared.single.Singleness.{Singleness}
+use Rattle.determinism.specs.Single.{single, singleIf}
+use Rattle.determinism.specs.declared.Singleness.{Singleness}
 use Rattle.emptiness.specs.Surveyed.{surveyOf}
 use Rattle.emptiness.specs.Checked.{checkedBy}
 use Rattle.emptiness.specs.declared.Survey.{Survey}

@@ -24,7 +24,7 @@ pub fn put_read(
     ensures { λ r. ⌜ ((p : List ℕ) → Ready (automatonOf header p) header (now (table .entry)) (now (leaves .entry))
         → Appended (now (out .entry)) 0 (headOf header p) (now (out .exit)) r) × (r ≤ 232) ⌝ }
 {
-    let single = transitions::single::single_prepared(header, table);
+    let single = determinism::single_prepared(header, table);
     let quick = emptiness::file::quick_prepared(header, table, leaves);
     let mut plan = [0u8; 195];
     let survey = emptiness::file::survey_prepared(header, table, leaves, &mut plan);

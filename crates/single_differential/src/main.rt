@@ -1,6 +1,7 @@
 // Compares single with a pairwise reading of the records, on automata by chance whose records say rules more than once. Each is asked once as
 // it is and once damaged, with the refusal that document 01 has for it. It writes the answers of each family, the refusals by number, and how
 // often the engine differs.
+use determinism::Singleness;
 use refusal::Refusal;
 use sampling::access::number;
 use sampling::random::chance;
@@ -12,7 +13,6 @@ use sampling::report::text;
 use sampling::rules;
 use sampling::rules::Automaton;
 use search::files;
-use transitions::single::Singleness;
 
 // The automata of each family.
 const AUTOMATA: usize = 2000;
@@ -50,7 +50,7 @@ fn refused_by(refusal: Refusal) -> Answer {
 }
 
 fn engine(file: &[u8]) -> Answer {
-    match transitions::single::single_file(file) {
+    match determinism::single_file(file) {
         Singleness::Single => judged(true),
         Singleness::Multiple => judged(false),
         Singleness::Refused(refusal) => refused_by(refusal),

@@ -1,5 +1,5 @@
 -- The compiled transitions: a set of next states for each of 32 symbols, 3 places, 4 moves and 24 states.
--- Interface: `cellOf`, `nextIn`, `RuleFits`, `Stepped`, `Added`, `Compiled`, `Loaded`.
+-- Interface: `cellOf`, `RuleFits`, `Stepped`, `Added`, `Compiled`, `Loaded`.
 use Prim.Native.Nat.{ℕ, _+_, _*_, _<_}
 use mathlib.Core.Path.{_≡_}
 use mathlib.Core.List.{List}
@@ -18,10 +18,6 @@ use Rattle.transitions.specs.Transitions.{placeNumber, fits, withIf, add
 -- the cell of a symbol, a place, a move and a state
 abbrev pub cellOf : ℕ → Place → Move → ℕ → ℕ
 cellOf σ τ μ p = ((σ * 3 + placeNumber τ) * 4 + moveByte μ) * 24 + p
-
--- what the cells of a table hold
-abbrev pub nextIn : List ℕ → (σ : ℕ) → Place → Move → (p : ℕ) → ℕ
-nextIn t σ τ μ p = getD t (cellOf σ τ μ p) 0
 
 -- a rule's numbers are within the table
 pub record RuleFits (r : Rule) : Type 0 where

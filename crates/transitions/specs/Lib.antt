@@ -1,7 +1,4 @@
--- Definitions: the transitions of a list of rules, the automaton of a file, the compiled table; spread rules, single and deterministic automata.
+-- Definitions: the transitions of a list of rules, the automaton of a file, the compiled table; the rules with place 3 spread.
 pub mod Transitions
 pub mod Compiled
 pub mod Spread
-pub mod Single
-pub mod Singles
-pub mod Determined

@@ -1,6 +1,4 @@
 // The transitions of an automaton, compiled from its rules into a table of sets of next states: a cell for each symbol, place, move and state.
-pub mod single;
-
 use automaton::Header;
 use automaton::Rule;
 use automaton::Scope;

@@ -1,4 +1,4 @@
--- `transitions::single::single_prepared` meets its contract: what the table tells is told of every automaton that it is compiled from.
+-- `determinism::single_prepared` meets its contract: what the table tells is told of every automaton that it is compiled from.
 -- Assumes nothing.
 use borrow.Author.Needs.{needs}
 use native.Mathlib.Omega.{arith}
@@ -7,12 +7,12 @@ use Prim.Native.Nat.{ℕ, _≤_}
 use mathlib.Core.Bool.{Bool}
 use mathlib.Core.List.{List}
 use Rattle.algorithms.specs.Automaton.{Automaton}
-use Rattle.transitions.specs.Compiled.{nextIn, Compiled}
-use Rattle.transitions.specs.Determined.{oneSymbols, determined}
-use Rattle.transitions.specs.Single.{singleIf}
-use Rattle.transitions.proofs.Determinism.{table-determined}
-use Rattle.transitions.proofs.single.single_prepared.Statement.{statement}
-use Rattle.transitions.proofs.single.single_prepared.Tie as tie
+use Rattle.transitions.specs.Compiled.{Compiled}
+use Rattle.determinism.specs.Determined.{nextIn, oneSymbols, determined}
+use Rattle.determinism.specs.Single.{singleIf}
+use Rattle.determinism.proofs.Determinism.{table-determined}
+use Rattle.determinism.proofs.single_prepared.Statement.{statement}
+use Rattle.determinism.proofs.single_prepared.Tie as tie
 
 told : (A : Automaton) (t : List ℕ) (symbols states : ℕ) (b : Bool) → symbols ≤ 32 → states ≤ 24 → b ≡ oneSymbols (nextIn t) states symbols
     → Compiled A t → A .symbols ≡ symbols → A .states ≡ states → singleIf b ≡ singleIf (determined A)

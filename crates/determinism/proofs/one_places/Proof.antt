@@ -1,11 +1,11 @@
--- `transitions::single::one_places` meets its contract: the places in turn.
+-- `determinism::one_places` meets its contract: the places in turn.
 -- Assumes nothing.
 use borrow.Author.Needs.{needs}
 use borrow.Author.Tests.{not-true, not-false}
 use mathlib.Core.Path.{sym, _∙_}
-use Rattle.transitions.specs.Determined.{onePlaces}
-use Rattle.transitions.proofs.single.one_places.Statement.{statement}
-use Rattle.transitions.proofs.single.one_places.Tie as tie
+use Rattle.determinism.specs.Determined.{onePlaces}
+use Rattle.determinism.proofs.one_places.Statement.{statement}
+use Rattle.determinism.proofs.one_places.Tie as tie
 
 pub one-places-spec : {M : Type 1} → statement M
 unfolding onePlaces

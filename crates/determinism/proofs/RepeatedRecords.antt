@@ -22,13 +22,13 @@ use Rattle.automaton.specs.declared.Header.{Header}
 use Rattle.automaton.specs.declared.Rule.{Rule}
 use Rattle.automaton.specs.declared.Scope.{Scope}
 use Rattle.automaton.specs.declared.file.Parsed.{Parsed}
 use Rattle.transitions.specs.Transitions.{automatonOf, byAutomaton}
 use Rattle.transitions.specs.Spread.{spreadRules, SameRules, SameCounts}
-use Rattle.transitions.specs.Single.{Single, single, singleIf, singleOf}
-use Rattle.transitions.specs.Singles.{SingleRight}
-use Rattle.transitions.specs.declared.single.Singleness.{Singleness}
-use Rattle.transitions.proofs.Determinism.{single-has, single-deterministic, same-test}
+use Rattle.determinism.specs.Single.{Single, single, singleIf, singleOf}
+use Rattle.determinism.specs.Singles.{SingleRight}
+use Rattle.determinism.specs.declared.Singleness.{Singleness}
+use Rattle.determinism.proofs.Determinism.{single-has, single-deterministic, same-test}
 use Rattle.transitions.proofs.Spreading.{rule-same, spread-transition, spread-rule}
 
 -- ---- "Equal rules, after place 3 is spread over its places, count as the same rule when we say whether a walker is single."
 

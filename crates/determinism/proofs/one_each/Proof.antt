@@ -1,15 +1,14 @@
--- `transitions::single::one_each` meets its contract. The invariant: each of the first p states has one choice.
+-- `determinism::one_each` meets its contract. The invariant: each of the first p states has one choice.
 -- Assumes nothing.
 use borrow.Author.Needs.{needs}
 use borrow.Author.Tests.{not-true, not-false}
 use Prim.Native.Nat.{_-_, _≤_}
 use mathlib.Core.Path.{_≡_, sym, _∙_}
 use mathlib.Core.Bool.{true}
-use Rattle.transitions.specs.Compiled.{nextIn}
-use Rattle.transitions.specs.Determined.{oneEach}
-use Rattle.transitions.proofs.Each.{each-none, each-next, each-fails}
-use Rattle.transitions.proofs.single.one_each.Statement.{statement}
-use Rattle.transitions.proofs.single.one_each.Tie as tie
+use Rattle.determinism.specs.Determined.{nextIn, oneEach}
+use Rattle.determinism.proofs.Each.{each-none, each-next, each-fails}
+use Rattle.determinism.proofs.one_each.Statement.{statement}
+use Rattle.determinism.proofs.one_each.Tie as tie
 
 abbrev Inv-loop : tie.InvT-loop
 Inv-loop table symbol place states p₀ p = (p ≤ states) × (oneEach (nextIn table) (symbol .0) place p ≡ true)

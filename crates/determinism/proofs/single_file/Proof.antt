@@ -1,4 +1,4 @@
--- `transitions::single::single_file` meets its contract: by what loading says, of the file's automaton. What that means is then a law of the
+-- `determinism::single_file` meets its contract: by what loading says, of the file's automaton. What that means is then a law of the
 -- definition.
 -- Assumes nothing.
 use borrow.Author.Needs.{needs}
@@ -8,15 +8,15 @@ use mathlib.Core.List.{List}
 use Rattle.automaton.specs.File.{parsed}
 use Rattle.automaton.specs.declared.file.Parsed.{Parsed}
 use Rattle.automaton.proofs.Passed.{file-limits}
-use Rattle.transitions.specs.Single.{singleIf, singleOf}
-use Rattle.transitions.specs.Singles.{SingleRight}
-use Rattle.transitions.specs.declared.single.Singleness.{Singleness}
+use Rattle.determinism.specs.Single.{singleIf, singleOf}
+use Rattle.determinism.specs.Singles.{SingleRight}
+use Rattle.determinism.specs.declared.Singleness.{Singleness}
 use Rattle.transitions.specs.Transitions.{automatonOf}
-use Rattle.transitions.proofs.Determinism.{single-determined}
+use Rattle.determinism.proofs.Determinism.{single-determined}
 use Rattle.transitions.proofs.Laws.{loaded-read}
-use Rattle.transitions.proofs.RepeatedRecords.{single-right}
-use Rattle.transitions.proofs.single.single_file.Statement.{statement}
-use Rattle.transitions.proofs.single.single_file.Tie as tie
+use Rattle.determinism.proofs.RepeatedRecords.{single-right}
+use Rattle.determinism.proofs.single_file.Statement.{statement}
+use Rattle.determinism.proofs.single_file.Tie as tie
 
 -- what is equal to the definition's answer is right
 both : (s : List ℕ) (r : Singleness) → r ≡ singleOf s → (r ≡ singleOf s) × SingleRight s r

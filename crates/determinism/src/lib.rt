@@ -1,6 +1,4 @@
 // Whether an automaton is single. Its compiled transitions are its spread rules, each once: it is single where they are deterministic.
-use crate::TransitionTable;
-use crate::cell;
 use automaton::Header;
 use automaton::file::Parsed;
 use model::Move;
@@ -9,15 +7,17 @@ use model::Side;
 use model::State;
 use model::Symbol;
 use refusal::Refusal;
+use transitions::TransitionTable;
+use transitions::cell;
 ghost use mathlib.Core.Path.{_≡_};
 ghost use Prim.Native.Nat.{_<_, _≤_};
 ghost use lib.Count.{ones};
 ghost use Rattle.algorithms.specs.Automaton.{Automaton};
 ghost use Rattle.automaton.specs.File.{WithinLimits};
-ghost use Rattle.transitions.specs.Compiled.{nextIn, Compiled};
-ghost use Rattle.transitions.specs.Determined.{oneChoice, oneEach, onePlaces, oneSymbols, determined};
-ghost use Rattle.transitions.specs.Single.{singleIf, singleOf};
-ghost use Rattle.transitions.specs.Singles.{SingleRight};
+ghost use Rattle.transitions.specs.Compiled.{Compiled};
+ghost use Rattle.determinism.specs.Determined.{nextIn, oneChoice, oneEach, onePlaces, oneSymbols, determined};
+ghost use Rattle.determinism.specs.Single.{singleIf, singleOf};
+ghost use Rattle.determinism.specs.Singles.{SingleRight};
 
 // What is told of a file: whether its automaton is single, or its refusal.
 pub enum Singleness {
@@ -108,7 +108,7 @@ pub fn single_file(file: &[u8]) -> Singleness
     ensures right { λ r. ⌜ SingleRight (now (file .entry)) r ⌝ }
 {
     let mut table = [0u32; 9216];
-    match crate::load(file, &mut table) {
+    match transitions::load(file, &mut table) {
         Parsed::Refused(refusal) => Singleness::Refused(refusal),
         Parsed::Read(header) => single_prepared(header, &table),
     }

@@ -9,8 +9,8 @@ use lib.Dec.{eqb}
 use Rattle.automaton.specs.File.{readAutomaton}
 use Rattle.automaton.specs.Payload.{placeByte, moveByte}
 use Rattle.automaton.specs.declared.Rule.{Rule}
 use Rattle.transitions.specs.Spread.{spreadRules}
-use Rattle.transitions.specs.declared.single.Singleness.{Singleness}
+use Rattle.determinism.specs.declared.Singleness.{Singleness}
 
 -- of a set of rules: two with the same symbol, state and place are one
 pub record Single (rules : Rule → Type 0) : Type 0 where

@@ -13,10 +13,10 @@ use Rattle.automaton.specs.File.{parsed}
 use Rattle.automaton.specs.declared.Header.{Header}
 use Rattle.automaton.specs.declared.Rule.{Rule}
 use Rattle.automaton.specs.declared.file.Parsed.{Parsed}
 use Rattle.transitions.specs.Transitions.{automatonOf}
 use Rattle.transitions.specs.Spread.{spreadRules}
-use Rattle.transitions.specs.Single.{Single}
-use Rattle.transitions.specs.declared.single.Singleness.{Singleness}
+use Rattle.determinism.specs.Single.{Single}
+use Rattle.determinism.specs.declared.Singleness.{Singleness}
 
 -- of a header and the joined contents
 pub record Singles (h : Header) (contents : List ℕ) (r : Singleness) : Type 0 where

@@ -7,7 +7,7 @@ use native.Mathlib.Decide.{ℕ-discrete}
 use native.Mathlib.Numerals.{add-one}
 use native.Mathlib.Omega.{arith}
 use Rattle.refusal.proofs.Passed.{clash, and-is-true}
-use Rattle.transitions.specs.Determined.{each}
+use Rattle.determinism.specs.Determined.{each}
 
 module _ (test : ℕ → Bool) where
   of-each : (n : ℕ) → each test n ≡ true → (i : ℕ) → i < n → test i ≡ true

@@ -1,9 +1,9 @@
--- `transitions::single::one_choice` meets its contract: the four cells are counted.
+-- `determinism::one_choice` meets its contract: the four cells are counted.
 -- Assumes nothing.
 use borrow.Author.Needs.{needs}
-use Rattle.transitions.specs.Determined.{oneChoice}
-use Rattle.transitions.proofs.single.one_choice.Statement.{statement}
-use Rattle.transitions.proofs.single.one_choice.Tie as tie
+use Rattle.determinism.specs.Determined.{oneChoice}
+use Rattle.determinism.proofs.one_choice.Statement.{statement}
+use Rattle.determinism.proofs.one_choice.Tie as tie
 
 pub one-choice-spec : {M : Type 1} → statement M
 unfolding oneChoice

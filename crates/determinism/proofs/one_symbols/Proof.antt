@@ -1,15 +1,14 @@
--- `transitions::single::one_symbols` meets its contract. The invariant: each of the first symbols has one choice in each state, at each place.
+-- `determinism::one_symbols` meets its contract. The invariant: each of the first symbols has one choice in each state, at each place.
 -- Assumes nothing.
 use borrow.Author.Needs.{needs}
 use borrow.Author.Tests.{not-true, not-false}
 use Prim.Native.Nat.{_-_, _≤_}
 use mathlib.Core.Path.{_≡_, sym, _∙_}
 use mathlib.Core.Bool.{true}
-use Rattle.transitions.specs.Compiled.{nextIn}
-use Rattle.transitions.specs.Determined.{oneSymbols}
-use Rattle.transitions.proofs.Each.{each-none, each-next, each-fails}
-use Rattle.transitions.proofs.single.one_symbols.Statement.{statement}
-use Rattle.transitions.proofs.single.one_symbols.Tie as tie
+use Rattle.determinism.specs.Determined.{nextIn, oneSymbols}
+use Rattle.determinism.proofs.Each.{each-none, each-next, each-fails}
+use Rattle.determinism.proofs.one_symbols.Statement.{statement}
+use Rattle.determinism.proofs.one_symbols.Tie as tie
 
 abbrev Inv-loop : tie.InvT-loop
 Inv-loop table symbols states symbol₀ symbol = (symbol ≤ symbols) × (oneSymbols (nextIn table) states symbol ≡ true)
