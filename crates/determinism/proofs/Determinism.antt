@@ -3,7 +3,7 @@
 use Prim.Native.Nat.{ℕ, zero, suc, _+_, _<_, _≤_}
 use mathlib.Core.Path.{_≡_, refl, sym, ap, ap₂, subst, _∙_}
 use mathlib.Core.Logic.{_⊎_, inl, inr, ⊎-elim, _↔_}
-use mathlib.Core.Bool.{Bool, true, false, not, _&&_, _||_}
+use mathlib.Core.Bool.{Bool, true, false, _&&_}
 use mathlib.Core.List.{List, [], _∷_, List·Memᴰ·head, List·Memᴰ·tail, List·Memᴰ·not-nil, List·Memᴰ·cases-cons}
 use native.Mathlib.Omega.{arith}
 use borrow.Author.Tests.{eqb-true, eq-eqb, leb-true, le-leb}
@@ -68,15 +68,15 @@ module _ (a b : Rule) where
       let m : meet a b ≡ true = meets (record { symbol = ap (λ (r : Rule). r .symbol .0) e; state = ap (λ (r : Rule). r .state .0) e; scope = ap (λ (r : Rule). r .scope) e }) in
       ap₂ _&&_ (ap₂ _&&_ m (eq-eqb _ _ (ap (λ (r : Rule). moveByte (r .step)) e))) (eq-eqb _ _ (ap (λ (r : Rule). r .next .0) e))
 
-  agree-one : agree a b ≡ true → Meeting a b → a ≡ b
-  agree-one e m = let f : (not true || equal a b) ≡ true = subst (λ (t : Bool). (not t || equal a b) ≡ true) (meets m) e in equal-is f
-
   one-agrees : (Meeting a b → a ≡ b) → agree a b ≡ true
   one-agrees h = by (meet a b) refl
     where
-      by : (t : Bool) → meet a b ≡ t → (not t || equal a b) ≡ true
-      by true e = is-equal (h (meeting e))
-      by false e = refl
+      by : (t : Bool) → meet a b ≡ t → agree a b ≡ true
+      by true e = rw e (rw e at (is-equal (h (meeting e))))
+      by false e = rw e
+
+  agree-one : agree a b ≡ true → Meeting a b → a ≡ b
+  agree-one e m = equal-is (rw (meets m) (rw (meets m) at e))
 
 -- ---- a list of rules
 
