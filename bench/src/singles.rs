@@ -37,13 +37,18 @@ fn small() -> Automaton {
     }
 }
 
-/// The automata: two records; the most, all different; the most, each four times; the most, of which the last is a second rule for one place.
-fn cases() -> [(&'static str, Automaton); 4] {
-    let mut second = rules_apart(MOST_RULES);
+/// The automata: two records; the most, all different, in no order and in rising order; the most, each four times; the most, of which the
+/// last is a second rule for one place.
+fn cases() -> [(&'static str, Automaton); 5] {
+    let apart = rules_apart(MOST_RULES);
+    let mut rising = apart.clone();
+    rising.sort_unstable_by_key(|rule| (rule.symbol, rule.state));
+    let mut second = apart.clone();
     second[MOST_RULES - 1] = Rule { step: LEFT, ..second[0] };
     [
         ("two records", small()),
-        ("512 records", of(rules_apart(MOST_RULES))),
+        ("512 records", of(apart)),
+        ("512, rising", of(rising)),
         ("128, 4 times", of(rules_apart(MOST_RULES / 4).repeat(4))),
         ("not single", of(second)),
     ]
