@@ -71,7 +71,7 @@ uint32_t engine_single(const uint8_t *file, size_t length, size_t told[3]);
  * 0 counted, 1 refused (14, 2, 0). */
 uint32_t engine_count(uint32_t tally[3], uint32_t outcome, size_t told[3]);
 
-/* 100 times accepted over accepted and other, to the nearest, half upward; 0 where both are 0. */
+/* 100 times accepted over accepted and other, to the nearest, a half to the even number; 0 where both are 0. */
 uint32_t engine_percent(uint32_t accepted, uint32_t other);
 
 /* Counts trees' files end to end (the report's batch) onto a tally of three numbers, which need not be 0: a file's first block gives its

@@ -1,11 +1,12 @@
 #!/usr/bin/env python3
 """Writes data/ and stdout of crates/report_cases, or of another folder (tools/make_reports.py [FOLDER]): pairs of a walker file and letters, and
-the report that document 01 asks for on each.
+the report that documents 01 and 02 ask for on each.
 
-The expected lines are written down here from document 01 and share nothing with the engine. Of the cases in LARGER they are computed: by
+The expected lines are written down here from the documents and share nothing with the engine. Of the cases in LARGER they are computed: by
 search over configurations, tree by tree, and the survey and the quick check word for word; where the construction of a walker or a batch
 tells a line, the case states it and the computed line is held to it."""
 import os, shutil, sys
+from fractions import Fraction
 from files import CONTENT, blocks, blocks_for, letter_file as letter, letter_payload, walker_file as walker
 
 HERE = sys.argv[1] if len(sys.argv) > 1 else os.path.join(os.path.dirname(os.path.abspath(__file__)), '..', 'crates', 'report_cases')
@@ -73,7 +74,7 @@ CASES = [
     ('refusal 4 ends, 4,097 nodes', EXAMPLE, YES + letter([], count=4097) + YES, HEAD + [documents(1, 0, 1, 100)]),
     ('refusal 6 goes on', EXAMPLE, filled(YES, 100) + YES, HEAD + [documents(1, 0, 1, 100)]),
     ('refusals 10 to 12 go on', EXAMPLE, letter([3]) + YES + letter([2, 0]) + right_comb(65) + NO + right_comb(64), HEAD + [documents(2, 1, 3, 67)]),
-    ('percent, half upward', EXAMPLE, YES + 7 * NO, HEAD + [documents(1, 7, 0, 13)]),
+    ('12.5 percent', EXAMPLE, YES + 7 * NO, HEAD + [documents(1, 7, 0, 12)]),
     ('A+', walker(2, 3, 1, 2, 4, A + [(1, 0, 0, 0, 1)]), letter([1]), [
         'walker states=2 symbols=3 rules=5 single=yes', 'quick unsure', 'survey found height=0 rows=1', documents(1, 0, 0, 100)]),
     ('rules that meet', walker(2, 3, 1, 2, 4, A + [(1, 0, 3, 0, 0)]), YES, [
@@ -219,7 +220,7 @@ def computed(name, automaton, letters, states):
             known[key] = 2 if isinstance(symbols, bytes) else verdict(automaton, symbols)
         counts[known[key]] += 1
     judged = counts[0] + counts[1]
-    percent = (200 * counts[0] + judged) // (2 * judged) if judged else 0
+    percent = round(Fraction(100 * counts[0], judged)) if judged else 0  # which takes a half to the even number
     head = f'walker states={automaton.n} symbols={automaton.m} rules={len(automaton.rules)} single={"yes" if automaton.is_single() else "no"}'
     expected = [head, quick(automaton), survey(automaton), documents(*counts, percent)]
     for line in states:
@@ -302,6 +303,11 @@ COMB_64, COMB_65 = [2, 0] * 64 + [1], [2, 0] * 65 + [1]
 # Of 1,100 letters each seventy-third is refused, 15 in all, and each seventeenth not accepted, 64 in all; none is both.
 THOUSAND = [[3] if i % 73 == 72 else OTHER if i % 17 == 16 else ACCEPTED for i in range(1100)]
 
+
+def letters_of(accepted, other):
+    return [ACCEPTED] * accepted + [OTHER] * other
+
+
 LARGER = [
     ('rule 10 refused', refused_walker(10, (1, 0, 3, 1, 1)), letter(ACCEPTED), ['walker refused=9 place=10']),
     ('rule 300 refused', refused_walker(300, (2, 0, 0, 4, 0)), letter(ACCEPTED), ['walker refused=8 place=300']),
@@ -336,6 +342,15 @@ LARGER = [
              ['walker states=2 symbols=3 rules=512 single=yes', *HEAD[1:], documents(1, 1, 0, 50)]),
     computed('repeats beside rules that meet', Walker(2, 3, 1, 2, 4, A + A + [(1, 0, 3, 0, 0)]), [ACCEPTED],
              ['walker states=2 symbols=3 rules=9 single=no', *HEAD[1:], documents(1, 0, 0, 100)]),
+    # document 02, W3: a half goes to the even number, and nothing else of the line changes; refused letters count for nothing
+    computed('37.5 percent', THE_EXAMPLE, letters_of(3, 5), [*HEAD, documents(3, 5, 0, 38)]),
+    computed('62.5 percent', THE_EXAMPLE, letters_of(5, 3), [*HEAD, documents(5, 3, 0, 62)]),
+    computed('87.5 percent, and refused letters', THE_EXAMPLE, letters_of(7, 1) + [[3], [2, 0]], [*HEAD, documents(7, 1, 2, 88)]),
+    computed('0.5 percent', THE_EXAMPLE, letters_of(1, 199), [*HEAD, documents(1, 199, 0, 0)]),
+    computed('1.5 percent', THE_EXAMPLE, letters_of(3, 197), [*HEAD, documents(3, 197, 0, 2)]),
+    computed('99.5 percent', THE_EXAMPLE, letters_of(199, 1), [*HEAD, documents(199, 1, 0, 100)]),
+    computed('one letter fewer than for 0.5 percent', THE_EXAMPLE, letters_of(1, 198), [*HEAD, documents(1, 198, 0, 1)]),
+    computed('one letter more than for 1.5 percent', THE_EXAMPLE, letters_of(3, 198), [*HEAD, documents(3, 198, 0, 1)]),
 ]
 
 

@@ -1,4 +1,4 @@
-//! Trees' files end to end (document 01, "Tally and report").
+//! Trees' files end to end (document 01, "Tally and report"; document 02, W3).
 use crate::{blocks, Judge, Refusal, Verdict};
 
 /// How many trees were accepted, judged and not accepted, and refused.
@@ -28,6 +28,14 @@ pub fn count(tally: &mut Tally, verdict: Verdict) {
         Verdict::Other => tally[1] += 1,
         Verdict::Refused(_) => tally[2] += 1,
     }
+}
+
+/// The percent of accepted trees among those judged: of the numbers from 0 to 100 the nearest, of two equally near ones the even; where none was
+/// judged all are equally near, and 0 is the first.
+pub fn percent([accepted, other, _]: Tally) -> u32 {
+    let (all, judged) = (100 * u64::from(accepted), u64::from(accepted) + u64::from(other));
+    let near = |&percent: &u32| (all.abs_diff(u64::from(percent) * judged), percent % 2);
+    (0..=100).min_by_key(near).expect("there are numbers")
 }
 
 /// The first file, whose first block gives its length; nothing where the bytes stop inside it.

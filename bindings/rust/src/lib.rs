@@ -153,7 +153,7 @@ pub fn count(tally: &mut Tally, outcome: Outcome) -> Result<(), Refusal> {
     on_numbers(tally, |numbers| declared::count(numbers, outcome as u32))
 }
 
-/// The percent of accepted trees among those judged, to the nearest, half upward; 0 where none was judged.
+/// The percent of accepted trees among those judged, to the nearest, a half to the even number; 0 where none was judged.
 pub fn percent(tally: Tally) -> u32 {
     declared::percent(tally)
 }

@@ -9,7 +9,7 @@ use bench::{
     survey::{self, Survey},
     tree,
 };
-use engine::{count, percent, report, File, Outcome, Refusal, Tally};
+use engine::{count, report, File, Outcome, Refusal, Tally};
 
 const BATCHES: u64 = 600;
 
@@ -30,7 +30,7 @@ fn lines(file: &[u8], automaton: &Automaton, tally: Tally) -> String {
         tally.accepted,
         tally.other,
         tally.refused,
-        percent(tally),
+        batch::percent([tally.accepted, tally.other, tally.refused]),
     )
 }
 

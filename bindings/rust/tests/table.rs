@@ -141,19 +141,3 @@ fn largest_tally() {
     assert_eq!(tally, most);
     assert_eq!(percent(most), 50);
 }
-
-/// To the nearest, half upward, by comparing twice the distances.
-#[test]
-fn percents() {
-    for judged in 0..400u32 {
-        for accepted in 0..=judged {
-            let found = percent(Tally { accepted, other: judged - accepted, refused: 7 });
-            if judged == 0 {
-                assert_eq!(found, 0);
-            } else {
-                let (twice, rounded) = (200 * accepted, 2 * found * judged);
-                assert!(rounded <= twice + judged && twice < rounded + judged, "{accepted} of {judged}: {found}");
-            }
-        }
-    }
-}

@@ -16,6 +16,7 @@ ghost use Rattle.emptiness.specs.Demand3.{Demand3, Demand3Quick};
 ghost use Rattle.determinism.specs.Single.{singleOf};
 ghost use Rattle.determinism.specs.Singles.{SingleRight};
 ghost use Rattle.tally.specs.Tally.{countedUp, percentOf};
+ghost use Rattle.tally.specs.Rounding.{PercentRight};
 ghost use Rattle.batch.specs.Batch.{talliedOf};
 ghost use Rattle.text.specs.Appended.{Appended};
 ghost use Rattle.report_text.specs.Report.{reportOf};
@@ -70,9 +71,10 @@ pub fn count(tally: &mut Tally, outcome: Outcome) -> Check
     tally::count(tally, outcome)
 }
 
-// The percent of accepted trees among those judged, to the nearest, half upward.
+// The percent of accepted trees among those judged, to the nearest, a half to the even number; 0 where none was judged.
 pub fn percent(tally: Tally) -> u32
-    ensures { λ r. ⌜ r ≡ percentOf tally ⌝ }
+    ensures equals { λ r. ⌜ r ≡ percentOf tally ⌝ }
+    ensures right { λ r. ⌜ PercentRight tally r ⌝ }
 {
     tally::percent(tally)
 }

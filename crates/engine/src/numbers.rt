@@ -16,6 +16,7 @@ ghost use Rattle.emptiness.specs.Demand3.{Demand3, Demand3Quick};
 ghost use Rattle.determinism.specs.Single.{singleOf};
 ghost use Rattle.determinism.specs.Singles.{SingleRight};
 ghost use Rattle.tally.specs.Tally.{countedUp, percentOf};
+ghost use Rattle.tally.specs.Rounding.{PercentRight};
 ghost use Rattle.batch.specs.Batch.{talliedOf};
 ghost use Rattle.text.specs.Appended.{Appended};
 ghost use Rattle.report_text.specs.Report.{reportOf};
@@ -103,7 +104,8 @@ pub extern "C" fn engine_count(tally: &mut [u32; 3], outcome: u32, told: &mut [u
 // The percent of accepted trees among those judged.
 #[no_mangle]
 pub extern "C" fn engine_percent(accepted: u32, other: u32) -> u32
-    ensures { λ r. ⌜ r ≡ percentOf (judgedTally accepted other) ⌝ }
+    ensures equals { λ r. ⌜ r ≡ percentOf (judgedTally accepted other) ⌝ }
+    ensures right { λ r. ⌜ PercentRight (judgedTally accepted other) r ⌝ }
 {
     crate::percent(Tally {
         accepted,

@@ -1,9 +1,9 @@
 // Runs the report on stored pairs of an automaton's file and trees' files, NN.walker and NN.letters of the current directory, one after the
-// other. tools/make_reports.py makes the files and, from document 01 alone, the lines that are expected.
+// other. tools/make_reports.py makes the files and, from documents 01 and 02 alone, the lines that are expected.
 use reporting::Descriptor;
 ghost use Prim.Native.Nat.{_<_};
 
-const CASES: u8 = 43;
+const CASES: u8 = 51;
 
 fn report_case(number: u8)
     requires { ⌜ number < 100 ⌝ }

@@ -1,3 +1,4 @@
--- Definitions: the tally after one more outcome, the percent, and what rounding that is.
+-- Definitions: the tally after one more outcome, the percent, what rounding that is, and a table of cases.
 pub mod Tally
 pub mod Rounding
+pub mod PercentCases

@@ -1,8 +1,8 @@
--- The tally after one more outcome, and the percent of accepted trees (document 01, Tally and report; line 14 of the table).
+-- The tally after one more outcome, and the percent of accepted trees (document 01, Tally and report; line 14 of the table; document 02, W3).
 -- Interface: `countedUp`, `percentOf`.
-use Prim.Native.Nat.{ℕ, _+_, _*_, _/_}
-use mathlib.Core.Bool.{Bool, true, false}
-use lib.Dec.{eqb, leb}
+use Prim.Native.Nat.{ℕ, _+_, _*_, _/_, _%_}
+use mathlib.Core.Bool.{cond}
+use lib.Dec.{eqb, leb, ltb}
 use Rattle.refusal.specs.Checks.{refuseIf}
 use Rattle.refusal.specs.declared.Check.{Check}
 use Rattle.refusal.specs.declared.Fault.{Fault}
@@ -33,16 +33,24 @@ tallyAfter (Check.Refused r) t o = record { tally = t; check = Check.Refused r }
 unfoldable pub countedUp : Tally → Outcome → Tallied
 countedUp t o = tallyAfter (limitCheck t) t o
 
--- 100 a / d "rounded to the nearest, half upward": the half is added before the division, all over 2 d
+-- of q and q + 1 the even one
+abbrev pub evenOf : ℕ → ℕ
+evenOf q = q + q % 2
+
+-- a quotient by d is q, and something is left over: q where twice that is less than d, q + 1 where it is more; where it is d, "a half", "the even
+-- number" (document 02, W3)
+abbrev pub roundedBy : (q twice d : ℕ) → ℕ
+roundedBy q twice d = cond (ltb twice d) q (cond (ltb d twice) (q + 1) (evenOf q))
+
+-- 100 a / d as a whole number
 abbrev pub nearest : (a d : ℕ) → ℕ
-nearest a d = (200 * a + d) / (2 * d)
+nearest a d = roundedBy (100 * a / d) (2 * (100 * a % d)) d
 
-abbrev pub zeroIf : Bool → ℕ → ℕ
-zeroIf true n = 0
-zeroIf false n = n
+-- those that were judged: "accepted + other"
+abbrev pub judgedIn : Tally → ℕ
+judgedIn t = t .accepted + t .other
 
--- "Percent is 100 × accepted over accepted + other, ..; 0 if nothing was judged."
+-- "Percent is 100 × accepted over accepted + other, rounded to the nearest, ..; 0 if nothing was judged." "The percentage is worked out in whole
+-- numbers" (document 02, W3).
 unfoldable pub percentOf : Tally → ℕ
-percentOf t =
-    let judged = t .accepted + t .other in
-    zeroIf (eqb judged 0) (nearest (t .accepted) judged)
+percentOf t = cond (eqb (judgedIn t) 0) 0 (nearest (t .accepted) (judgedIn t))

@@ -4,6 +4,7 @@ use refusal::Fault;
 use refusal::refused;
 ghost use mathlib.Core.Path.{_≡_};
 ghost use Rattle.tally.specs.Tally.{countedUp, percentOf};
+ghost use Rattle.tally.specs.Rounding.{PercentRight};
 
 pub struct Tally {
     pub accepted: u32,
@@ -67,14 +68,23 @@ pub fn count_held(mut tally: Tally, outcome: Outcome) -> Tallied
     Tallied { tally, check }
 }
 
-// 100 times accepted over those judged, to the nearest, half upward; 0 where none was judged.
+// 100 times accepted over those judged, to the nearest, a half to the even number; 0 where none was judged.
 pub fn percent(tally: Tally) -> u32
-    ensures { λ r. ⌜ r ≡ percentOf tally ⌝ }
+    ensures equals { λ r. ⌜ r ≡ percentOf tally ⌝ }
+    ensures right { λ r. ⌜ PercentRight tally r ⌝ }
 {
     let accepted = tally.accepted as u64;
     let judged = accepted + tally.other as u64;
     if judged == 0 {
         return 0;
     }
-    ((200 * accepted + judged) / (2 * judged)) as u32
+    let below = (100 * accepted / judged) as u32;
+    let twice = 2 * (100 * accepted % judged);
+    if twice < judged {
+        return below;
+    }
+    if judged < twice {
+        return below + 1;
+    }
+    below + below % 2
 }

@@ -6,10 +6,10 @@ use Rattle.report_cases.proofs.main.Statement.{statement}
 use Rattle.report_cases.proofs.main.Tie as tie
 
 abbrev Inv-loop : tie.InvT-loop
-Inv-loop number₀ number = number ≤ 43
+Inv-loop number₀ number = number ≤ 51
 
 abbrev μ-loop : tie.MeasureT-loop
-μ-loop number₀ number = 43 - number
+μ-loop number₀ number = 51 - number
 
 pub main-spec : {M : Type 1} → statement M
 main-spec =
