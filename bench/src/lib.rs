@@ -1,4 +1,4 @@
-//! Judging, the survey, the quick check and single in Rust, written from documents 01 and 02 alone; and the measuring of judging, the
+//! Judging, the survey, the quick check, single and the percent in Rust, written from documents 01 and 02 alone; and the measuring of judging, the
 //! survey and single: the engine beside these. One call takes the bytes of an automaton's file and of trees' files end to end, and gives the
 //! tally; or the bytes of an automaton's file, and gives the survey's verdict and plan.
 pub mod agreement;

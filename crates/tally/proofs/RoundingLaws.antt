@@ -49,16 +49,17 @@ rounded-up q twice d more = rw (le-ltb twice d (omega (arith, more))) (rw (lt-lt
 pub rounded-even : (q twice d : ℕ) → twice ≡ d → roundedBy q twice d ≡ evenOf q
 rounded-even q twice d half = rw (le-ltb twice d (omega (arith, half))) (rw (le-ltb d twice (omega (arith, half))))
 
-pub even-of : (q : ℕ) → evenOf q % 2 ≡ 0
+even-of : (q : ℕ) → evenOf q % 2 ≡ 0
 even-of q = omega arith
 
-pub even-beside : (q : ℕ) → (evenOf q ≡ q) ⊎ (evenOf q ≡ q + 1)
+even-beside : (q : ℕ) → (evenOf q ≡ q) ⊎ (evenOf q ≡ q + 1)
 even-beside q = go (eqb (q % 2) 0) refl
   where
     go : (b : Bool) → eqb (q % 2) 0 ≡ b → (evenOf q ≡ q) ⊎ (evenOf q ≡ q + 1)
     go true e = inl (omega (arith, eqb-true (q % 2) 0 e))
     go false e = inr (omega (arith, eqb-false (q % 2) 0 e))
 
+-- q and what is left over are those of 100 a by d
 module _ (a d q rest : ℕ) (whole : q * d + rest ≡ 100 * a) (below : rest < d) where
   from-q : distance a d q ≡ rest
   from-q = omega (arith, whole)
@@ -87,7 +88,7 @@ module _ (a d q rest : ℕ) (whole : q * d + rest ≡ 100 * a) (below : rest < d
           let half : 2 * rest ≡ d = omega (arith, ltb-false (2 * rest) d l, ltb-false d (2 * rest) m) in
           rw (rounded-even q (2 * rest) d half) (in-middle half)
 
-pub nearest-rounds : (a d : ℕ) → 0 < d → Rounded a d (nearest a d)
+nearest-rounds : (a d : ℕ) → 0 < d → Rounded a d (nearest a d)
 nearest-rounds a d some = by-parts a d (100 * a / d) (100 * a % d) (div-add-mod' (100 * a) d) (mod-lt (100 * a) some)
 
 -- ---- what document 01 had
@@ -156,14 +157,3 @@ percent-right t = record {
   rounded = percent-rounds t;
   only = λ some r h. rounds-once (t .accepted) (judgedIn t) r (percentOf t) some h (percent-rounds t some);
 }
-
--- a percent is 100 at most: of at most all judged ones, 100 is nearer than any number above it
-pub percent-at-most : (t : Tally) → percentOf t ≤ 100
-percent-at-most t = go (ltb 0 (judgedIn t)) refl (ltb 100 (percentOf t)) refl
-  where
-    go : (b : Bool) → ltb 0 (judgedIn t) ≡ b → (c : Bool) → ltb 100 (percentOf t) ≡ c → percentOf t ≤ 100
-    go false none c e = omega (arith, percent-of-none t (omega (arith, ltb-false 0 (judgedIn t) none)))
-    go true some false e = omega (arith, ltb-false 100 (percentOf t) e)
-    go true some true e =
-        let near = percent-rounds t (ltb-true 0 (judgedIn t) some) .nearest 100 in
-        absurd (omega (arith, near, ltb-true 0 (judgedIn t) some, stretch 1 (judgedIn t) 100 (percentOf t) (omega (arith, ltb-true 100 (percentOf t) e))))

@@ -1,5 +1,5 @@
 -- The tally after one more outcome, and the percent of accepted trees (document 01, Tally and report; line 14 of the table; document 02, W3).
--- Interface: `countedUp`, `percentOf`.
+-- Interface: `countedUp`, `judgedIn`, `percentOf`.
 use Prim.Native.Nat.{ℕ, _+_, _*_, _/_, _%_}
 use mathlib.Core.Bool.{cond}
 use lib.Dec.{eqb, leb, ltb}
