@@ -1,4 +1,4 @@
-// Whether the answers of the survey and the quick check agree with the list of trees.
+// Whether the answers of the survey and the quick check agree with a list of trees, as far as it goes.
 use emptiness::Quick;
 use emptiness::Survey;
 use enumerated::lists;

@@ -1,9 +1,9 @@
--- `enumeration::print_heights` ends, after eight heights.
+-- `verdicts::counts::print_heights` ends, after eight heights.
 -- Assumes nothing.
 use borrow.Author.Needs.{needs}
 use Prim.Native.Nat.{_-_, _≤_}
-use Rattle.enumeration.proofs.print_heights.Statement.{statement}
-use Rattle.enumeration.proofs.print_heights.Tie as tie
+use Rattle.verdicts.proofs.counts.print_heights.Statement.{statement}
+use Rattle.verdicts.proofs.counts.print_heights.Tie as tie
 
 abbrev Inv-loop : tie.InvT-loop
 Inv-loop counts h₀ t4 t5 h = h ≤ 8
