@@ -68,7 +68,7 @@ fn searched(accepted: u32, other: u32) -> u8 {
     best
 }
 
-// How a percent is rounded: not at all (0); downward (1) or upward (2) from nearer by; from the middle of two numbers downward (3) or upward (4).
+// How a percent is rounded: not at all (0); down (1) or up (2) to the nearer number; from the middle of two numbers down (3) or up (4).
 fn rounding(accepted: u32, other: u32, percent: u8) -> usize {
     let found = distance(accepted, other, percent);
     if found.by == 0 {
