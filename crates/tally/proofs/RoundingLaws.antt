@@ -49,6 +49,17 @@ rounded-up q twice d more = rw (le-ltb twice d (omega (arith, more))) (rw (lt-lt
 pub rounded-even : (q twice d : ℕ) → twice ≡ d → roundedBy q twice d ≡ evenOf q
 rounded-even q twice d half = rw (le-ltb twice d (omega (arith, half))) (rw (le-ltb d twice (omega (arith, half))))
 
+-- what holds in each of the three cases holds
+rounded-cases : (P : ℕ → Type 0) (q twice d : ℕ) → (twice < d → P q) → (d < twice → P (q + 1)) → (twice ≡ d → P (evenOf q)) → P (roundedBy q twice d)
+rounded-cases P q twice d down up even = go (ltb twice d) refl (ltb d twice) refl
+  where
+    go : (b : Bool) → ltb twice d ≡ b → (c : Bool) → ltb d twice ≡ c → P (roundedBy q twice d)
+    go true l c m = rw (rounded-down q twice d (ltb-true twice d l)) (down (ltb-true twice d l))
+    go false l true m = rw (rounded-up q twice d (ltb-true d twice m)) (up (ltb-true d twice m))
+    go false l false m =
+        let half : twice ≡ d = omega (arith, ltb-false twice d l, ltb-false d twice m) in
+        rw (rounded-even q twice d half) (even half)
+
 even-of : (q : ℕ) → evenOf q % 2 ≡ 0
 even-of q = omega arith
 
@@ -75,18 +86,10 @@ module _ (a d q rest : ℕ) (whole : q * d + rest ≡ 100 * a) (below : rest < d
       go (inr e) = within-half a d (evenOf q) (rw (ap (distance a d) e) (omega (arith, from-next, half))) (λ h. even-of q)
 
   by-parts : Rounded a d (roundedBy q (2 * rest) d)
-  by-parts = go (ltb (2 * rest) d) refl (ltb d (2 * rest)) refl
-    where
-      go : (b : Bool) → ltb (2 * rest) d ≡ b → (c : Bool) → ltb d (2 * rest) ≡ c → Rounded a d (roundedBy q (2 * rest) d)
-      go true l c m =
-          let less = ltb-true (2 * rest) d l in
-          rw (rounded-down q (2 * rest) d less) (within-half a d q (omega (arith, from-q, less)) (λ h. absurd (omega (arith, from-q, less, h))))
-      go false l true m =
-          let more = ltb-true d (2 * rest) m in
-          rw (rounded-up q (2 * rest) d more) (within-half a d (q + 1) (omega (arith, from-next, more)) (λ h. absurd (omega (arith, from-next, more, h))))
-      go false l false m =
-          let half : 2 * rest ≡ d = omega (arith, ltb-false (2 * rest) d l, ltb-false d (2 * rest) m) in
-          rw (rounded-even q (2 * rest) d half) (in-middle half)
+  by-parts = rounded-cases (Rounded a d) q (2 * rest) d
+      (λ less. within-half a d q (omega (arith, from-q, less)) (λ h. absurd (omega (arith, from-q, less, h))))
+      (λ more. within-half a d (q + 1) (omega (arith, from-next, more)) (λ h. absurd (omega (arith, from-next, more, h))))
+      in-middle
 
 nearest-rounds : (a d : ℕ) → 0 < d → Rounded a d (nearest a d)
 nearest-rounds a d some = by-parts a d (100 * a / d) (100 * a % d) (div-add-mod' (100 * a) d) (mod-lt (100 * a) some)
@@ -108,15 +111,10 @@ pub as-before : (a d : ℕ) → 0 < d → 2 * (100 * a % d) ≢ d → nearest a 
 as-before a d some no-half = go (100 * a / d) (100 * a % d) (div-add-mod' (100 * a) d) (mod-lt (100 * a) some) no-half
   where
     go : (q rest : ℕ) → q * d + rest ≡ 100 * a → rest < d → 2 * rest ≢ d → roundedBy q (2 * rest) d ≡ upward a d
-    go q rest whole below other = beside (ltb (2 * rest) d) refl
-      where
-        beside : (b : Bool) → ltb (2 * rest) d ≡ b → roundedBy q (2 * rest) d ≡ upward a d
-        beside true l =
-            let less = ltb-true (2 * rest) d l in
-            rounded-down q (2 * rest) d less ∙ upward-by a d q (q * d) refl (omega (arith, whole)) (omega (arith, whole, less))
-        beside false l =
-            let more : d < 2 * rest = omega (arith, ltb-false (2 * rest) d l, other) in
-            rounded-up q (2 * rest) d more ∙ upward-by a d (q + 1) (q * d + 1 * d) (add-mul q 1 d) (omega (arith, whole, more)) (omega (arith, whole, below))
+    go q rest whole below other = rounded-cases (λ n. n ≡ upward a d) q (2 * rest) d
+        (λ less. upward-by a d q (q * d) refl (omega (arith, whole)) (omega (arith, whole, less)))
+        (λ more. upward-by a d (q + 1) (q * d + 1 * d) (add-mul q 1 d) (omega (arith, whole, more)) (omega (arith, whole, below)))
+        (λ half. absurd (other half))
 
 -- ---- no other number
 

@@ -4,6 +4,7 @@ use Prim.Native.Nat.{ℕ, _-_}
 use mathlib.Core.List.{List, [], _∷_}
 use Rattle.tally.specs.declared.Tally.{Tally}
 
+-- of so many that were judged so many were accepted, and this is the percent
 infix 80 _of_prints_
 pub data Case : Type 0 where
   _of_prints_ : (accepted judged percent : ℕ) → Case
@@ -41,6 +42,7 @@ cases =
     ∷ 4294967229 of 8504885601 prints 51
     ∷ []
 
+-- a row's tally, and the percent that the row tells
 abbrev pub tallyIn : Case → Tally
 tallyIn (accepted of judged prints percent) = record { accepted = accepted; other = judged - accepted; refused = 0 }
 

@@ -10,6 +10,7 @@ use Rattle.tally.specs.Tally.{judgedIn}
 abbrev pub distance : (a d r : ℕ) → ℕ
 distance a d r = (100 * a - r * d) + (r * d - 100 * a)
 
+-- r is the percent of a among d
 pub record Rounded (a d r : ℕ) : Type 0 where
   -- "rounded to the nearest": no whole number is nearer
   pub nearest : (s : ℕ) → distance a d r ≤ distance a d s

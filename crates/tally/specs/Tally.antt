@@ -37,12 +37,12 @@ countedUp t o = tallyAfter (limitCheck t) t o
 abbrev pub evenOf : ℕ → ℕ
 evenOf q = q + q % 2
 
--- a quotient by d is q, and something is left over: q where twice that is less than d, q + 1 where it is more; where it is d, "a half", "the even
--- number" (document 02, W3)
+-- division by d gives q and a rest, and `twice` is twice the rest: q where the rest is under half of d, q + 1 where it is over; the sheet "rounds
+-- a half to the even number" (document 02, W3)
 abbrev pub roundedBy : (q twice d : ℕ) → ℕ
 roundedBy q twice d = cond (ltb twice d) q (cond (ltb d twice) (q + 1) (evenOf q))
 
--- 100 a / d as a whole number
+-- 100 a / d as a whole number: its quotient and rest, rounded so
 abbrev pub nearest : (a d : ℕ) → ℕ
 nearest a d = roundedBy (100 * a / d) (2 * (100 * a % d)) d
 
