@@ -42,6 +42,12 @@ layout-passed h p e =
       rules = size-passed format (payload h) p (both .1);
     }
 
+layout-counts : (h : Header) (p : List ℕ) → layoutCheck h p ≡ Passed → countsCheck h ≡ Passed
+unfolding layoutCheck
+layout-counts h p e =
+    let later = both-passed (kindCheck format p) (countsCheck h andThen sizeCheck format (payload h) p) e .1 in
+    both-passed (countsCheck h) (sizeCheck format (payload h) p) later .0
+
 -- ---- a rule that is known has numbers below the counts
 
 pub record InCounts (h : Header) (r : Rule) : Type 0 where
@@ -90,11 +96,12 @@ read-of : (c : Check) (h h′ : Header) → readOf c h ≡ Parsed.Read h′ → 
 read-of Passed h h′ e = (refl, cc)
 read-of (Refused r) h h′ e = clash (cc)
 
--- the file is of its size, the header is the contents', the counts are within their limits, line 7 passed, and every rule is known and well placed
+-- the file is of its size, the header is the contents', the counts are within their limits, lines 4 and 7 passed, and every rule is known and well placed
 pub record FileRead (s : List ℕ) (h : Header) : Type 0 where
   pub size : FileSize format (length s)
   pub header : headerOf (content s) ≡ h
   pub laid-out : LaidOut h (content s)
+  pub counts : countsCheck h ≡ Passed
   pub sets : setsCheck h ≡ Passed
   pub rules : (i : ℕ) → i < h .rules → KnownRule h (content s) i
 
@@ -114,6 +121,7 @@ file-read s h e =
       size = file-passed format s (first .0);
       header = refl;
       laid-out = layout-passed g p (both .0);
+      counts = layout-counts g p (both .0);
       sets = last .0;
       rules = λ i l. rule-passed g p i (each-passed (ruleCheck g p) 0 (g .rules) (last .1) i (omega arith) (omega arith));
     })

@@ -112,7 +112,8 @@ fn body_check(content: &[u8], header: Header) -> Check
     crate::rules::rules_check(content, header)
 }
 
-// Reads an automaton's file: its counts and sets, and its joined contents at the front of a lent buffer; or its refusal.
+// Reads an automaton's file by document 01's table: its counts and sets, and its joined contents at the front of a lent buffer; or its refusal.
+// The canonical form reads by this at all times.
 pub fn parse(file: &[u8], contents: &mut Contents) -> Parsed
     ensures { λ r. ⌜ (r ≡ parsed (now (file .entry))) × (now (contents .exit) ≡ contentsAfter r (now (file .entry)) (now (contents .entry))) ⌝ }
 {
@@ -131,4 +132,11 @@ pub fn parse(file: &[u8], contents: &mut Contents) -> Parsed
     }
     bytes::copy(content, contents);
     Parsed::Read(header)
+}
+
+// What all other calls read an automaton's file by: the same table.
+pub fn read(file: &[u8], contents: &mut Contents) -> Parsed
+    ensures { λ r. ⌜ (r ≡ parsed (now (file .entry))) × (now (contents .exit) ≡ contentsAfter r (now (file .entry)) (now (contents .entry))) ⌝ }
+{
+    parse(file, contents)
 }

@@ -27,15 +27,11 @@ use Rattle.automaton.specs.declared.Header.{Header}
 use Rattle.automaton.specs.declared.Rule.{Rule}
 use Rattle.automaton.specs.declared.rules.RuleBytes.{RuleBytes}
 use Rattle.automaton.proofs.Bytes.{sort-place, sort-move}
+use Rattle.automaton.proofs.Records.{records-length}
 use Rattle.automaton_writer.proofs.Bytes.{payload-length, record-byte}
 use Rattle.automaton_writer.specs.ReadsBack.{Fits, FitsEach, Passing, ReadsBack}
 
 -- ---- the bytes of rules
-
-pub records-length : (rs : List Rule) → length (recordsOf rs) ≡ 5 * length rs
-unfolding recordsOf
-records-length [] = refl
-records-length (r ∷ rs) = omega (arith, records-length rs)
 
 -- rule i of the list, and its five bytes
 record RuleAt (h : Header) (rs : List Rule) (i : ℕ) : Type 0 where

@@ -1,11 +1,22 @@
 // Writes the file that holds a payload: the fewest blocks, zero filler, right checks.
 use blocks::wide;
+use refusal::Check;
+use refusal::Fault;
+use refusal::Refusal;
+use refusal::refused;
 ghost use mathlib.Core.Path.{_≡_};
 ghost use mathlib.Core.List.{_++_};
 ghost use Prim.Native.Nat.{_+_, _*_, _/_, _%_, _<_, _≤_};
 ghost use lib.ListN.{length, getD, drop};
 ghost use Rattle.blocks.specs.Blocks.{wordAt};
 ghost use Rattle.blocks.specs.FileOf.{blocksNeeded, checkFor, wordBytes, fileByte, fileOf};
+ghost use Rattle.block_writer.specs.Written.{roomCheck};
+
+// What a call that writes a file answers: its length, or the refusal.
+pub enum Written {
+    Bytes(usize),
+    Refused(Refusal),
+}
 
 // The byte at an offset, 0 past the end.
 fn byte_at(payload: &[u8], at: usize) -> u8
@@ -68,6 +79,18 @@ fn file_byte(payload: &[u8], check: u32, i: usize) -> u8
     } else {
         word_byte(check, at - 508)
     }
+}
+
+// Refusal 13, for the file of a payload of so many bytes.
+pub fn room_check(payload: usize, room: usize) -> Check
+    requires { ⌜ payload ≤ 4608 ⌝ }
+    ensures { λ r. ⌜ r ≡ roomCheck (512 * blocksNeeded payload) room ⌝ }
+{
+    let needed = 512 * ((payload + 507) / 508);
+    if room < needed {
+        return refused(Fault::Buffer, 2, needed);
+    }
+    Check::Passed
 }
 
 // Writes the file to the front of `out`, and returns its length.

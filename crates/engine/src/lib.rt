@@ -1,6 +1,7 @@
 // The engine's public functions, over the bytes of files; none asks anything of its caller. `numbers` has the same for Rust and C.
 pub mod numbers;
 
+use block_writer::Written;
 use determinism::Singleness;
 use membership::Answer;
 use refusal::Check;
@@ -20,8 +21,11 @@ ghost use Rattle.tally.specs.Rounding.{PercentRight};
 ghost use Rattle.batch.specs.Batch.{talliedOf};
 ghost use Rattle.text.specs.Appended.{Appended};
 ghost use Rattle.report_text.specs.Report.{reportOf};
-ghost use Rattle.witness.specs.Written.{filled, witnessOf};
-ghost use Rattle.witness.specs.Promise.{Promise};
+ghost use Rattle.block_writer.specs.Written.{filled};
+ghost use Rattle.witness.specs.Written.{witnessOf};
+ghost use Rattle.witness.specs.Promise as witness-spec;
+ghost use Rattle.canonical.specs.Canonical.{canonicalOf};
+ghost use Rattle.canonical.specs.Promise as canonical-spec;
 
 // Whether an automaton's file accepts a tree's file.
 pub fn judge(automaton: &[u8], tree: &[u8]) -> Answer
@@ -40,9 +44,9 @@ pub fn survey(file: &[u8], plan: &mut [u8]) -> emptiness::Survey
 }
 
 // The tree that a plan builds, as a tree's file at the front of the output: the plan that a survey of the automaton's file found, or any other.
-pub fn witness(file: &[u8], plan: &[u8], out: &mut [u8]) -> witness::Written
+pub fn witness(file: &[u8], plan: &[u8], out: &mut [u8]) -> Written
     ensures equals { λ r. ⌜ filled r (now (out .exit)) ≡ witnessOf (now (file .entry)) (now (plan .entry)) (now (out .entry)) ⌝ }
-    ensures right { λ r. ⌜ Promise (now (file .entry)) (now (plan .entry)) (now (out .entry)) (filled r (now (out .exit))) ⌝ }
+    ensures right { λ r. ⌜ witness-spec.Promise (now (file .entry)) (now (plan .entry)) (now (out .entry)) (filled r (now (out .exit))) ⌝ }
 {
     witness::file::write(file, plan, out)
 }
@@ -61,6 +65,14 @@ pub fn single(file: &[u8]) -> Singleness
     ensures right { λ r. ⌜ SingleRight (now (file .entry)) r ⌝ }
 {
     determinism::single_file(file)
+}
+
+// An automaton's file in its one form, at the front of the output: place 3 spread, repeats dropped, the rules in rising order of their five bytes.
+pub fn canonical(file: &[u8], out: &mut [u8]) -> Written
+    ensures equals { λ r. ⌜ filled r (now (out .exit)) ≡ canonicalOf (now (file .entry)) (now (out .entry)) ⌝ }
+    ensures right { λ r. ⌜ canonical-spec.Promise (now (file .entry)) (now (out .entry)) (filled r (now (out .exit))) ⌝ }
+{
+    canonical::write(file, out)
 }
 
 // The lent tally counts one outcome more; or, where it is full, stays as it was, and refusal 14 is the answer.

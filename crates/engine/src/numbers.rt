@@ -1,12 +1,12 @@
 // The engine's functions for Rust and C, on numbers and bytes; bindings/engine.h has their C declarations. Each answers a number, and leaves
 // three more in `told`: those of the answer, or of a refusal its number, file and place; what is missing is 0. `right` says that these are
 // the numbers of an answer that meets the demand.
+use block_writer::Written;
 use determinism::Singleness;
 use emptiness::Quick;
 use emptiness::Survey;
 use membership::Answer;
 use tally::Tally;
-use witness::Written;
 ghost use mathlib.Core.Path.{_≡_};
 ghost use Rattle.membership.specs.Judged.{judged};
 ghost use Rattle.membership.specs.Demand2.{Demand2};
@@ -20,8 +20,11 @@ ghost use Rattle.tally.specs.Rounding.{PercentRight};
 ghost use Rattle.batch.specs.Batch.{talliedOf};
 ghost use Rattle.text.specs.Appended.{Appended};
 ghost use Rattle.report_text.specs.Report.{reportOf};
-ghost use Rattle.witness.specs.Written.{filled, witnessOf};
-ghost use Rattle.witness.specs.Promise.{Promise};
+ghost use Rattle.block_writer.specs.Written.{filled};
+ghost use Rattle.witness.specs.Written.{witnessOf};
+ghost use Rattle.witness.specs.Promise as witness-spec;
+ghost use Rattle.canonical.specs.Canonical.{canonicalOf};
+ghost use Rattle.canonical.specs.Promise as canonical-spec;
 ghost use Rattle.numbering.specs.Numbers.{answerNumber, answerTold, surveyNumber, surveyTold, quickNumber, quickTold, singleNumber, singleTold, writtenNumber, writtenTold, outcomeNumbered, tallyOf, tallyNumbers, checkNumber, checkTold, judgedTally};
 
 // Whether an automaton's file accepts a tree's file.
@@ -59,7 +62,7 @@ pub extern "C" fn engine_witness(
         × (now (told .exit) ≡ writtenTold (witnessOf (now (file .entry)) (now (plan .entry)) (now (out .entry)) .answer))
         × (now (out .exit) ≡ witnessOf (now (file .entry)) (now (plan .entry)) (now (out .entry)) .out) ⌝ }
     ensures right { λ r. ⌜ ((a : Written) × (r ≡ writtenNumber a) × (now (told .exit) ≡ writtenTold a)
-        × Promise (now (file .entry)) (now (plan .entry)) (now (out .entry)) (filled a (now (out .exit)))) ⌝ }
+        × witness-spec.Promise (now (file .entry)) (now (plan .entry)) (now (out .entry)) (filled a (now (out .exit)))) ⌝ }
 {
     numbering::put_written(crate::witness(file, plan, out), told)
 }
@@ -80,6 +83,18 @@ pub extern "C" fn engine_single(file: &[u8], told: &mut [usize; 3]) -> u32
     ensures right { λ r. ⌜ ((a : Singleness) × (r ≡ singleNumber a) × (now (told .exit) ≡ singleTold a) × SingleRight (now (file .entry)) a) ⌝ }
 {
     numbering::put_single(crate::single(file), told)
+}
+
+// An automaton's file in its one form, at the front of the output.
+#[no_mangle]
+pub extern "C" fn engine_canonical(file: &[u8], out: &mut [u8], told: &mut [usize; 3]) -> u32
+    ensures equals { λ r. ⌜ (r ≡ writtenNumber (canonicalOf (now (file .entry)) (now (out .entry)) .answer))
+        × (now (told .exit) ≡ writtenTold (canonicalOf (now (file .entry)) (now (out .entry)) .answer))
+        × (now (out .exit) ≡ canonicalOf (now (file .entry)) (now (out .entry)) .out) ⌝ }
+    ensures right { λ r. ⌜ ((a : Written) × (r ≡ writtenNumber a) × (now (told .exit) ≡ writtenTold a)
+        × canonical-spec.Promise (now (file .entry)) (now (out .entry)) (filled a (now (out .exit)))) ⌝ }
+{
+    numbering::put_written(crate::canonical(file, out), told)
 }
 
 // One outcome more on a tally of three numbers: accepted, other, refused.

@@ -1,12 +1,13 @@
 -- Links that are stored from a node on.
 -- Assumes nothing.
-use Prim.Native.Nat.{ℕ, suc, _+_, _<_, _≤_}
+use Prim.Native.Nat.{ℕ, suc, _+_, _<_}
 use native.Mathlib.Numerals.{add-one}
 use native.Mathlib.Omega.{arith}
 use mathlib.Core.Path.{_≡_, refl, ap, _∙_}
-use mathlib.Core.List.{List, [], _∷_, _++_}
-use lib.ListN.{length, set, drop, length-append}
-use lib.Seq.{sets, sets-eq, set-comm}
+use mathlib.Core.List.{List, [], _∷_}
+use lib.ListN.{length, set, length-append}
+use lib.Seq.{sets, set-comm}
+use Rattle.blocks.proofs.Stores.{sets-append}
 use Rattle.model.specs.Trees.{Tree, leaf, node, size}
 use Rattle.links.specs.Links.{parentsFrom, rightsFrom}
 
@@ -23,11 +24,6 @@ rights-length at (leaf σ) = refl
 rights-length at (node σ l r) =
     ap suc (length-append (rightsFrom (at + 1) l) (rightsFrom (at + 1 + size l) r)
     ∙ cc (rights-length (at + 1) l, rights-length (at + 1 + size l) r))
-
--- one run of stores after another
-sets-append : (vs ws l : List ℕ) (i j : ℕ) → j ≡ i + length vs → sets (sets l i vs) j ws ≡ sets l i (vs ++ ws)
-sets-append [] ws l i j e = ap (λ (k : ℕ). sets l k ws) (let f : j ≡ i = omega arith in f)
-sets-append (v ∷ vs) ws l i j e = sets-append vs ws (set l i v) (suc i) j (omega arith)
 
 -- a store before a run of stores
 set-sets : (vs l : List ℕ) (i at v : ℕ) → at < i → set (sets l i vs) at v ≡ sets (set l at v) i vs
@@ -53,9 +49,3 @@ module _ (at : ℕ) (l r : Tree) where
       rw (f, e, add-one at, set-sets (rightsFrom (suc at) l) R (suc at) at (suc at + size l) (omega arith))
       (sets-append (rightsFrom (suc at) l) (rightsFrom (suc at + size l) r) (set R at (suc at + size l)) (suc at) (suc at + size l)
       (omega (arith, rights-length (suc at) l)))
-
--- stores from the first place on are what stands at the front
-pub sets-front : (vs l : List ℕ) (n : ℕ) → length vs ≡ n → n ≤ length l → sets l 0 vs ≡ vs ++ drop n l
-sets-front vs l n e h =
-    let f : 0 + length vs ≡ n = omega arith in
-    sets-eq vs l 0 (omega arith) ∙ ap (λ (k : ℕ). vs ++ drop k l) f

@@ -6,13 +6,13 @@ use mathlib.Core.List.{List, [], _∷_}
 use lib.ListN.{getD}
 use Rattle.refusal.specs.declared.Check.{Check}
 use Rattle.refusal.specs.declared.Refusal.{Refusal}
+use Rattle.block_writer.specs.declared.Written.{Written}
 use Rattle.determinism.specs.declared.Singleness.{Singleness}
 use Rattle.membership.specs.declared.Answer.{Answer}
 use Rattle.emptiness.specs.declared.Survey.{Survey}
 use Rattle.emptiness.specs.declared.Quick.{Quick}
 use Rattle.tally.specs.declared.Outcome.{Outcome}
 use Rattle.tally.specs.declared.Tally.{Tally}
-use Rattle.witness.specs.declared.Written.{Written}
 
 -- nothing is told
 abbrev pub none : List ℕ
@@ -68,7 +68,7 @@ singleTold Singleness.Single = none
 singleTold Singleness.Multiple = none
 singleTold (Singleness.Refused r) = refusalTold r
 
--- a plan's tree, written: the length of the file
+-- a file that was written: its length
 abbrev pub writtenNumber : Written → ℕ
 writtenNumber (Written.Bytes n) = 0
 writtenNumber (Written.Refused r) = 1

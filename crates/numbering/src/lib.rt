@@ -1,5 +1,6 @@
 // Answers as numbers, for programs in other languages: each function answers a number, and leaves three more in `told`: those of the answer, or
 // of a refusal its number, file and place; what is missing is 0.
+use block_writer::Written;
 use determinism::Singleness;
 use emptiness::Quick;
 use emptiness::Survey;
@@ -8,7 +9,6 @@ use refusal::Check;
 use refusal::Refusal;
 use tally::Outcome;
 use tally::Tally;
-use witness::Written;
 ghost use mathlib.Core.Path.{_≡_};
 ghost use Rattle.numbering.specs.Numbers.{refusalTold, answerNumber, answerTold, surveyNumber, surveyTold, quickNumber, quickTold, singleNumber, singleTold, writtenNumber, writtenTold, outcomeNumbered, tallyNumbers, checkNumber, checkTold};
 

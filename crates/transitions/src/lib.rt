@@ -21,7 +21,8 @@ ghost use Rattle.transitions.specs.Compiled.{cellOf, RuleFits, Stepped, 
 // A set of next states for each of 32 symbols, 3 places, 4 moves and 24 states.
 pub type TransitionTable = [u32; 9216];
 
-fn place_number(place: Place) -> usize
+// A place, and below a move, as the byte that stands for it.
+pub fn place_number(place: Place) -> usize
     ensures { λ r. ⌜ (r ≡ placeNumber place) × (r < 3) ⌝ }
 {
     match place {
@@ -33,7 +34,7 @@ fn place_number(place: Place) -> usize
     }
 }
 
-fn move_number(step: Move) -> usize
+pub fn move_number(step: Move) -> usize
     ensures { λ r. ⌜ (r ≡ moveByte step) × (r < 4) ⌝ }
 {
     match step {
@@ -105,7 +106,7 @@ fn clear(table: &mut [u32])
 }
 
 // Fills a table with the transitions that the rules allow.
-fn compile(content: &[u8], header: Header, table: &mut TransitionTable)
+pub fn compile(content: &[u8], header: Header, table: &mut TransitionTable)
     requires { ⌜ LaidOut header (now content) ⌝ }
     ensures { λ _. ⌜ Compiled (automatonOf header (now (content .entry))) (now (table .exit)) ⌝ }
 {
@@ -123,7 +124,7 @@ pub fn load(file: &[u8], table: &mut TransitionTable) -> Parsed
     ensures { λ r. ⌜ (r ≡ parsed (now (file .entry))) × Loaded r (now (file .entry)) (now (table .entry)) (now (table .exit)) ⌝ }
 {
     let mut contents = [0u8; 3048];
-    match automaton::file::parse(file, &mut contents) {
+    match automaton::file::read(file, &mut contents) {
         Parsed::Refused(refusal) => Parsed::Refused(refusal),
         Parsed::Read(header) => {
             let len = blocks::content_length(file);

@@ -1,4 +1,5 @@
 // Plans, found by the survey or by chance, written as the files of letters, and the letters judged: whether both are what is expected, counted.
+use block_writer::Written;
 use emptiness::Survey;
 use enumerated::plan;
 use membership::Answer;
@@ -11,7 +12,6 @@ use sampling::report::labelled;
 use sampling::report::text;
 use sampling::rules::Automaton;
 use search::files;
-use witness::Written;
 
 // A plan: its length, and where the survey found it the height told, else 99.
 pub struct Made {

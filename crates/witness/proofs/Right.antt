@@ -4,7 +4,7 @@ use Prim.Native.Nat.{ℕ, _+_, _*_, _%_, _<_, _≤_}
 use native.Mathlib.Omega.{arith}
 use mathlib.Core.Path.{_≡_, refl, sym, ap, subst, _∙_}
 use mathlib.Core.Bool.{Bool, true, false}
-use mathlib.Core.List.{List, _++_}
+use mathlib.Core.List.{List}
 use lib.ListN.{length, take, drop}
 use lib.Dec.{ltb}
 use lib.Seq.{take-at}
@@ -25,7 +25,6 @@ use Rattle.algorithms.specs.Saturate.{languageOf, algebraOf}
 use Rattle.algorithms.proofs.Recognized.{recognizes}
 use Rattle.algorithms.proofs.Theorems.{demand-3, count-unique}
 use Rattle.refusal.specs.Checks.{refuseIf, _andThen_}
-use Rattle.refusal.specs.declared.Check.{Check}
 use Rattle.refusal.specs.declared.Fault.{Fault}
 use Rattle.refusal.specs.declared.Check.the-variants.{Passed, Refused}
 use Rattle.refusal.specs.declared.Refusal.{Refusal}
@@ -46,9 +45,11 @@ use Rattle.emptiness.specs.Demand3.{Planned}
 use Rattle.emptiness.specs.declared.Survey.{Survey}
 use Rattle.emptiness.proofs.Proved.{surveyed-right}
 use Rattle.witness.specs.Plan.{planRows, rowsIn, symbolAt, leftAt, rightAt, planTree, lengthWrong, partsWrong, rowWrong, planCheck, largeCheck}
-use Rattle.witness.specs.Written.{planFile, roomCheck, spaceCheck, Filled, filled, filledAfter, witnessFor, witnessOf}
+use Rattle.block_writer.specs.Written.{roomCheck, Filled, filled}
+use Rattle.block_writer.specs.declared.Written.{Written}
+use Rattle.block_writer.proofs.Answers.{after-bytes, after-kept}
+use Rattle.witness.specs.Written.{planFile, spaceCheck, witnessFor, witnessOf}
 use Rattle.witness.specs.Promise.{PlanTree, TreeWritten, FoundWritten, Promise}
-use Rattle.witness.specs.declared.Written.{Written}
 use Rattle.witness.proofs.Passed.{PlanPassed, plan-passed, sound}
 use Rattle.witness.proofs.Building.{rows-back, bytes-length, rows-length, row-nth, plan-builds, plan-low, plan-over}
 use Rattle.witness.proofs.Space.{large-passed, space-passed, space-passes}
@@ -70,20 +71,11 @@ module _ (sg : Signature) (p : List ℕ) (passed : PlanPassed sg p) where
 
 -- ---- an answer, back to its checks
 
-after-bytes : (c : Check) (p out : List ℕ) (n : ℕ) → filledAfter c p out .answer ≡ Written.Bytes n
-    → (c ≡ Passed) × (n ≡ length (planFile p)) × (filledAfter c p out .out ≡ planFile p ++ drop n out)
-after-bytes Passed p out n e = let same : length (planFile p) ≡ n = cc in (refl, sym same, ap (λ (k : ℕ). planFile p ++ drop k out) same)
-after-bytes (Refused r) p out n e = clash (cc)
-
-after-kept : (c : Check) (p out : List ℕ) (r : Refusal) → filledAfter c p out .answer ≡ Written.Refused r → filledAfter c p out .out ≡ out
-after-kept Passed p out r e = clash (cc)
-after-kept (Refused q) p out r e = refl
-
 file-written : (sg : Signature) (p out : List ℕ) (n : ℕ) → witnessFor sg p out .answer ≡ Written.Bytes n
     → TreeWritten sg p out (witnessFor sg p out .out) n
 unfolding witnessFor
 file-written sg p out n e =
-    let a = after-bytes (planCheck sg p andThen spaceCheck p (length out)) p out n e in
+    let a = after-bytes (planCheck sg p andThen spaceCheck p (length out)) (planFile p) out n e in
     let both = both-passed (planCheck sg p) (spaceCheck p (length out)) (a .0) in
     record {
       tree = planTree p;
@@ -183,7 +175,7 @@ module _ (w : List ℕ) (h : Header) (read : parsed w ≡ Parsed.Read h) (buffer
         rw same (planned .witness .accepted)
 
 -- where no check stops it, the file's length is told
-stops-not : (sg : Signature) (p out : List ℕ) → planCheck sg p ≡ Passed → largeCheck p ≡ Passed → roomCheck p (length out) ≡ Passed
+stops-not : (sg : Signature) (p out : List ℕ) → planCheck sg p ≡ Passed → largeCheck p ≡ Passed → roomCheck (length (planFile p)) (length out) ≡ Passed
     → witnessFor sg p out .answer ≡ Written.Bytes (length (planFile p))
 unfolding witnessFor
 stops-not sg p out e a b = rw (e, space-passes p (length out) a b)
@@ -212,7 +204,7 @@ module _ (w p before : List ℕ) where
   unfolding witnessOf witnessFor
   kept-promise (Parsed.Refused s) read r e = rw read
   kept-promise (Parsed.Read h) read r e =
-      rw read (after-kept (planCheck (signatureOf (automatonOf h (content w))) p andThen spaceCheck p (length before)) p before r (rw read at e))
+      rw read (after-kept (planCheck (signatureOf (automatonOf h (content w))) p andThen spaceCheck p (length before)) (planFile p) before r (rw read at e))
 
   tree-promise : (h : Header) → parsed w ≡ Parsed.Read h → planCheck (signatureOf (automatonOf h (content w))) p ≡ Passed → largeCheck p ≡ Passed
       → (t : Tree) × PlanTree (signatureOf (automatonOf h (content w))) p t

@@ -3,10 +3,11 @@
 use Prim.Native.Nat.{ℕ, suc, _+_, _<_, _≤_, min}
 use native.Mathlib.Omega.{arith}
 use native.Mathlib.Numerals.{add-one}
-use mathlib.Core.Path.{_≡_, ap, _∙_}
-use mathlib.Core.List.{List, [], _∷_, _++_}
+use mathlib.Core.Path.{_≡_, refl, ap, _∙_}
+use mathlib.Core.List.{List, _++_}
 use lib.ListN.{length, getD, set, drop}
-use lib.Seq.{sets, sets-eq}
+use lib.Seq.{sets}
+use Rattle.blocks.proofs.Stores.{sets-append, sets-front}
 use Rattle.model.specs.Trees.{Tree, leaf, node, size}
 use Rattle.nodes.specs.Preorder.{preorder}
 use Rattle.nodes.proofs.Standing.{size-preorder}
@@ -37,10 +38,6 @@ sized-more p sizes i x h s e k l = go (native.Mathlib.Decide.ℕ-discrete k i)
 
 -- ---- nodes
 
-sets-append : (vs ws l : List ℕ) (i : ℕ) → sets (sets l i vs) (i + length vs) ws ≡ sets l i (vs ++ ws)
-sets-append [] ws l i = ap (λ (j : ℕ). sets l j ws) (omega arith)
-sets-append (v ∷ vs) ws l i = ap (λ (j : ℕ). sets (sets (set l i v) (suc i) vs) j ws) (omega arith) ∙ sets-append vs ws (set l i v) (suc i)
-
 pub leaf-written : (t : Tree) (σ at : ℕ) (out : List ℕ) → t ≡ leaf σ → set out at σ ≡ sets out at (preorder t)
 unfolding preorder
 leaf-written t σ at out e = rw e
@@ -49,9 +46,7 @@ pub node-written : (t l r : Tree) (σ at m : ℕ) (out x y : List ℕ) → t ≡
     x ≡ sets (set out at σ) (at + 1) (preorder l) → y ≡ sets x m (preorder r) → y ≡ sets out at (preorder t)
 unfolding preorder
 node-written t l r σ at m out x y e em ex ey =
-    rw (ey, ex, em, e, ← size-preorder l, add-one at) (sets-append (preorder l) (preorder r) (set out at σ) (suc at))
+    rw (ey, ex, em, e, ← size-preorder l, add-one at) (sets-append (preorder l) (preorder r) (set out at σ) (suc at) (suc at + length (preorder l)) refl)
 
 pub front-written : (t : Tree) (out : List ℕ) → size t ≤ length out → sets out 0 (preorder t) ≡ preorder t ++ drop (size t) out
-front-written t out h =
-    let e : 0 + length (preorder t) ≡ size t = omega (arith, size-preorder t) in
-    sets-eq (preorder t) out 0 (omega (arith, size-preorder t)) ∙ ap (λ (n : ℕ). preorder t ++ drop n out) e
+front-written t out h = sets-front (preorder t) out (size t) (size-preorder t) h

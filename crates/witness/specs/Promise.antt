@@ -17,13 +17,14 @@ use Rattle.automaton.specs.declared.file.Parsed.{Parsed}
 use Rattle.transitions.specs.Transitions.{automatonOf}
 use Rattle.tree.specs.Payload.{treeFile}
 use Rattle.tree_writer.specs.ReadsBack.{ReadsBack}
+use Rattle.block_writer.specs.Written.{roomCheck, Filled}
+use Rattle.block_writer.specs.declared.Written.{Written}
 use Rattle.membership.specs.Judged.{signatureOf, judged}
 use Rattle.membership.specs.declared.Answer.{Answer}
 use Rattle.emptiness.specs.Surveyed.{surveyed}
 use Rattle.emptiness.specs.declared.Survey.{Survey}
 use Rattle.witness.specs.Plan.{planRows, planCheck, largeCheck}
-use Rattle.witness.specs.Written.{Filled, planFile, roomCheck}
-use Rattle.witness.specs.declared.Written.{Written}
+use Rattle.witness.specs.Written.{planFile}
 
 -- the plan p builds a tree, and no other; "reading the file back gives the plan's tree"
 pub record PlanTree (sg : Signature) (p : List ℕ) (t : Tree) : Type 0 where
@@ -41,7 +42,7 @@ pub record TreeWritten (sg : Signature) (p before after : List ℕ) (n : ℕ) : 
 -- "a plan from Found, if neither 16 nor 13 stops it, gives a letter that this walker accepts": by what judging answers, and by runs
 pub record FoundWritten (w : List ℕ) (A : Automaton) (p before : List ℕ) (o : Filled) : Type 0 where
   pub not-15 : planCheck (signatureOf A) p ≡ Passed
-  pub unless-stopped : largeCheck p ≡ Passed → roomCheck p (length before) ≡ Passed → o .answer ≡ Written.Bytes (length (planFile p))
+  pub unless-stopped : largeCheck p ≡ Passed → roomCheck (length (planFile p)) (length before) ≡ Passed → o .answer ≡ Written.Bytes (length (planFile p))
   pub judged-accepted : (n : ℕ) → o .answer ≡ Written.Bytes n → judged w (take n (o .out)) ≡ Answer.Accepted
   pub by-runs : (t : Tree) → Builds (planRows p) t → Accepted A t
 

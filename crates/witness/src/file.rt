@@ -1,10 +1,11 @@
 // The tree that a plan builds as a tree's file: refusals 15, 16 and 13, and the bytes.
-use crate::Written;
 use crate::plan::plan_check;
 use crate::plan::plan_size;
 use crate::plan::write_nodes;
 use automaton::file::Parsed;
-use automaton::file::parse;
+use automaton::file::read;
+use block_writer::Written;
+use block_writer::room_check;
 use model::Signature;
 use refusal::Check;
 use refusal::Fault;
@@ -17,7 +18,8 @@ ghost use lib.ListN.{length, drop};
 ghost use Rattle.model.specs.Trees.{size};
 ghost use Rattle.witness.specs.Plan.{planTree};
 ghost use Rattle.witness.specs.Sound.{Sound};
-ghost use Rattle.witness.specs.Written.{planFile, spaceCheck, filled, witnessFor, witnessOf};
+ghost use Rattle.block_writer.specs.Written.{filled};
+ghost use Rattle.witness.specs.Written.{planFile, spaceCheck, witnessFor, witnessOf};
 ghost use Rattle.witness.specs.Promise.{Promise};
 
 // Refusal 16, then 13.
@@ -29,11 +31,7 @@ fn space_check(plan: &[u8], room: usize) -> Check
     if 4096 < nodes {
         return refused(Fault::Large, 2, 0);
     }
-    let needed = 512 * ((4 + nodes + 507) / 508);
-    if room < needed {
-        return refused(Fault::Buffer, 2, needed);
-    }
-    Check::Passed
+    room_check(4 + nodes, room)
 }
 
 // Writes the file of the tree to the front of `out`, and returns its length.
@@ -65,7 +63,7 @@ pub fn write(file: &[u8], plan: &[u8], out: &mut [u8]) -> Written
     ensures right { λ r. ⌜ Promise (now (file .entry)) (now (plan .entry)) (now (out .entry)) (filled r (now (out .exit))) ⌝ }
 {
     let mut contents = [0u8; 3048];
-    match parse(file, &mut contents) {
+    match read(file, &mut contents) {
         Parsed::Refused(refusal) => Written::Refused(refusal),
         Parsed::Read(header) => {
             let signature = Signature {

@@ -2,11 +2,3 @@
 // promises in terms of trees and runs.
 pub mod file;
 mod plan;
-
-use refusal::Refusal;
-
-// The length of the file that was written, or the refusal.
-pub enum Written {
-    Bytes(usize),
-    Refused(Refusal),
-}

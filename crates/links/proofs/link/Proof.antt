@@ -5,7 +5,8 @@ use native.Mathlib.Omega.{arith}
 use mathlib.Core.Path.{_∙_}
 use Rattle.model.specs.Trees.{size}
 use Rattle.links.specs.Links.{parentsOf, rightsOf}
-use Rattle.links.proofs.Storing.{parents-length, rights-length, sets-front}
+use Rattle.blocks.proofs.Stores.{sets-front}
+use Rattle.links.proofs.Storing.{parents-length, rights-length}
 use Rattle.links.proofs.link.Statement.{statement}
 use Rattle.links.proofs.link.Tie as tie
 

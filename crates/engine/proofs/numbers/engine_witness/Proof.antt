@@ -2,7 +2,7 @@
 -- Assumes nothing.
 use borrow.Author.Needs.{needs}
 use mathlib.Core.Path.{ap, _∙_}
-use Rattle.witness.specs.Written.{Filled}
+use Rattle.block_writer.specs.Written.{Filled}
 use Rattle.numbering.specs.Numbers.{writtenNumber, writtenTold}
 use Rattle.engine.proofs.numbers.engine_witness.Statement.{statement}
 use Rattle.engine.proofs.numbers.engine_witness.Tie as tie

@@ -1,6 +1,6 @@
 -- `witness::file::space_check` meets its contract.
 -- Assumes nothing.
-use Rattle.witness.proofs.Space.{large, not-large, counted, room-short, room-enough}
+use Rattle.witness.proofs.Space.{large, not-large, counted, room-is}
 use Rattle.witness.specs.Written.{spaceCheck}
 use borrow.Author.Needs.{needs}
 use native.Mathlib.Omega.{arith}
@@ -14,20 +14,10 @@ returns c = rw (large (c .before .before .before .before .args .plan .now) _ (c 
 returns-2 : tie.Need-returns-2
 unfolding spaceCheck
 returns-2 c =
-    let p = c .before .before .before .before .before .args .plan .now in
-    let n = c .before .before .before .plan-size .ensures in
-    let few = c .before .before .if1 .left in
-    rw (not-large p _ n (omega (arith, few)))
-    (room-short p (c .before .before .before .before .before .args .room) _ (counted p _ n (omega (arith, few))) (omega (arith, c .before .if2 .taken)) (c .refused2 .ensures))
-
-returns-3 : tie.Need-returns-3
-unfolding spaceCheck
-returns-3 c =
     let p = c .before .before .before .before .args .plan .now in
     let n = c .before .before .plan-size .ensures in
     let few = c .before .if1 .left in
-    rw (not-large p _ n (omega (arith, few)))
-    (room-enough p (c .before .before .before .before .args .room) _ (counted p _ n (omega (arith, few))) (omega (arith, c .if2 .left)))
+    rw (not-large p _ n (omega (arith, few))) (room-is p _ _ (counted p _ n (omega (arith, few))) (c .room-check .ensures))
 
 pub space-check-spec : {M : Type 1} → statement M
 space-check-spec =
@@ -37,8 +27,5 @@ space-check-spec =
     (λ c κs. search needs)
     returns
     (λ c. search needs)
-    (λ c. search needs)
-    (λ c. search needs)
     (λ c κs. search needs)
-    returns-2
-    returns-3)
+    returns-2)

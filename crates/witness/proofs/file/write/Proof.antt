@@ -4,7 +4,8 @@ use borrow.Author.Needs.{needs}
 use Prim.Native.Nat.{ℕ}
 use mathlib.Core.Path.{_≡_, sym, _∙_}
 use mathlib.Core.List.{List}
-use Rattle.witness.specs.Written.{Filled, witnessOf}
+use Rattle.block_writer.specs.Written.{Filled}
+use Rattle.witness.specs.Written.{witnessOf}
 use Rattle.witness.specs.Promise.{Promise}
 use Rattle.witness.proofs.Right.{refused-is, witness-is, witness-right}
 use Rattle.witness.proofs.file.write.Statement.{statement}
@@ -16,12 +17,12 @@ both w p before o e = (e, rw e (witness-right w p before))
 
 returns : tie.Need-returns
 returns c =
-    let read = sym (c .before .before .before .parse .ensures .0) ∙ c .before .refusal .given .1 in
+    let read = sym (c .before .before .before .read .ensures .0) ∙ c .before .refusal .given .1 in
     both _ _ _ _ (sym (refused-is _ _ _ _ read))
 
 returns-2 : tie.Need-returns-2
 returns-2 c =
-    let read = sym (c .before .before .before .before .before .before .before .parse .ensures .0) ∙ c .before .before .before .before .before .header .given .1 in
+    let read = sym (c .before .before .before .before .before .before .before .read .ensures .0) ∙ c .before .before .before .before .before .header .given .1 in
     both _ _ _ _ (c .before .before .write-checked .ensures ∙ sym (witness-is _ _ _ _ read))
 
 pub write-spec : {M : Type 1} → statement M

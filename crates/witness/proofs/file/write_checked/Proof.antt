@@ -1,6 +1,7 @@
 -- `witness::file::write_checked` meets its contract.
 -- Assumes nothing.
-use Rattle.witness.proofs.Space.{space-passed, told}
+use Rattle.block_writer.proofs.Answers.{told}
+use Rattle.witness.proofs.Space.{space-passed}
 use Rattle.witness.specs.Written.{planFile, spaceCheck, witnessFor}
 use Rattle.witness.proofs.Passed.{plan-passed, sound}
 use Rattle.witness.specs.Plan.{planCheck}

@@ -1,0 +1,2 @@
+-- Definitions: what a call that writes a file answers, and what it leaves in the output.
+pub mod Written

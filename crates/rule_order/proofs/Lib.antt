@@ -1,0 +1,4 @@
+pub mod Writing
+pub mod Members
+pub mod Ordering
+pub mod Listing
