@@ -5,13 +5,12 @@
  * encodings in crates/numbering/specs/Numbers.antt.
  *
  * Pointers. A pointer with a length points at so many bytes, or more; it is never null, also where the length is 0. A pointer to numbers
- * is aligned as its type is. What a function writes to (told, out, tally, text, a
- * survey's plan) overlaps nothing else that it was given; what it only
- * reads may overlap. Nothing is kept after the call.
+ * is aligned as its type is. What a function writes to (told, out, tally, text, a survey's plan) overlaps nothing else that it was given;
+ * what it only reads may overlap. Nothing is kept after the call.
  *
- * What is written. `told` is always written, all three numbers: what the answer tells, or, of a refusal, its number (1 to 14
- * of document 01's table, 15 and 16 of document 02), the file (0 automaton, 1 tree, 2 neither), and the place that the table names; what an answer does not tell is 0. `plan`,
- * `out`, `tally` and `text` are changed only as said below, and no other memory is.
+ * What is written. `told` is always written, all three numbers: what the answer tells, or, of a refusal, its number (1 to 14 of document
+ * 01's table, 15 to 17 of document 02), the file (0 automaton, 1 tree, 2 neither), and the place that the table names; what an answer does
+ * not tell is 0. `plan`, `out`, `tally` and `text` are changed only as said below, and no other memory is.
  *
  * Threads. Calls share nothing: there is no state between them, no allocation, no lock, no file and no signal. Any number of threads may
  * call at one time, each with memory of its own to be written to.
@@ -29,6 +28,7 @@
 #define ENGINE_WITNESS_STACK (20 * 1024)
 #define ENGINE_QUICK_STACK (52 * 1024)
 #define ENGINE_SINGLE_STACK (44 * 1024)
+#define ENGINE_CANONICAL_STACK (56 * 1024)
 #define ENGINE_COUNT_STACK (4 * 1024)
 #define ENGINE_PERCENT_STACK (4 * 1024)
 #define ENGINE_TALLY_STACK (80 * 1024)
@@ -65,6 +65,13 @@ uint32_t engine_quick(const uint8_t *file, size_t length, size_t told[3]);
  * rules are one rule.
  * 0 single, 1 not single, 2 refused (number, file, place). */
 uint32_t engine_single(const uint8_t *file, size_t length, size_t told[3]);
+
+/* Writes an automaton's file in its one form to the front of the output: the same counts of states and symbols, the same three sets, and the
+ * rules with place 3 spread over places 0, 1 and 2, equal ones once, in rising order of their five bytes. Later bytes stay; a call that is
+ * refused changes none.
+ * 0 written (length), 1 refused (number, file, place): after the automaton's refusals 17, more than 512 rules remain (0), and 13, the output
+ * is too short (the length of the form). */
+uint32_t engine_canonical(const uint8_t *file, size_t length, uint8_t *out, size_t out_length, size_t told[3]);
 
 /* Counts one outcome more on a tally of three numbers: accepted, other, refused. The outcome is what engine_judge answered: 0 accepted,
  * 1 other, any other number refused. A tally whose numbers add to 1,000,000 or more stays as it was.

@@ -41,6 +41,16 @@ static void add_rule(int symbol, int state, int place, int move, int next)
     rule[0] = (uint8_t)symbol, rule[1] = (uint8_t)state, rule[2] = (uint8_t)place, rule[3] = (uint8_t)move, rule[4] = (uint8_t)next;
 }
 
+/* The file of the 512 rules that were added, over 24 states and 32 symbols, of which all but the last branch. */
+static size_t write_rules(uint8_t *file, uint32_t final)
+{
+    uint32_t sets[3] = {1u << 16, final, 0x7fffffff};
+    payload[0] = 87, payload[1] = 24, payload[2] = 32, payload[4] = 0, payload[5] = 2;
+    for (int i = 0; i < 12; i++)
+        payload[8 + i] = (uint8_t)(sets[i / 4] >> 8 * (i % 4));
+    return write_file(file, payload, 20 + 5 * 512);
+}
+
 /* The largest walker: 24 states, 32 symbols, of which 31 branch and the last is the leaf, 512 rules. It counts the nodes of left spines
  * modulo 3, 4 and 7, so that the survey goes on to its last round, and stays at the root for the remaining rules. */
 static size_t write_walker(uint8_t *file, uint32_t final)
@@ -57,11 +67,16 @@ static size_t write_walker(uint8_t *file, uint32_t final)
         add_rule(symbol, 14, 1, 1, 14);
     while (rules < 512)
         add_rule((int)rules % 31, 16 + (int)rules % 7, 0, 0, 16 + (int)(rules + 1) % 7);
-    uint32_t sets[3] = {1u << 16, final, 0x7fffffff};
-    payload[0] = 87, payload[1] = 24, payload[2] = 32, payload[4] = 0, payload[5] = 2;
-    for (int i = 0; i < 12; i++)
-        payload[8 + i] = (uint8_t)(sets[i / 4] >> 8 * (i % 4));
-    return write_file(file, payload, 20 + 5 * 512);
+    return write_rules(file, final);
+}
+
+/* The same counts and symbols, and 512 rules with place 3, which are 1,536 rules when spread; no state is final. */
+static size_t write_spread(uint8_t *file)
+{
+    rules = 0;
+    while (rules < 512)
+        add_rule((int)rules % 32, (int)rules / 32, 3, 0, (int)rules / 32);
+    return write_rules(file, 0);
 }
 
 static uint8_t nodes[4 + 4096];
@@ -107,13 +122,20 @@ static struct {
     size_t walker_length, letter_length;
 } input;
 
-/* Each pair of a walker (none, the one, and it with the start state final) and a letter (none, then combs: left, right, and both large). */
-enum { WALKERS = 3, LETTERS = 5, INPUTS = WALKERS * LETTERS };
+/* Each pair of a walker (none, the one, it with the start state final, and the one with place 3) and a letter (none, then combs: left,
+ * right, and both large). */
+enum { NONE, LARGEST, PASSING, SPREAD, WALKERS };
+enum { LETTERS = 5, INPUTS = WALKERS * LETTERS };
 
 static void make_input(int number)
 {
     int walker = number / LETTERS, letter = number % LETTERS;
-    input.walker_length = walker == 0 ? 0 : write_walker(input.walker, walker == 1 ? 1u << 23 : 1u << 16);
+    if (walker == NONE)
+        input.walker_length = 0;
+    else if (walker == SPREAD)
+        input.walker_length = write_spread(input.walker);
+    else
+        input.walker_length = write_walker(input.walker, walker == PASSING ? 1u << 16 : 1u << 23);
     input.letter_length = letter == 0 ? 0 : write_letter(input.letter, letter % 2, letter > 2);
 }
 
@@ -156,6 +178,12 @@ static void call_single(void)
     answer = engine_single(input.walker, input.walker_length, told);
 }
 
+static void call_canonical(void)
+{
+    static uint8_t out[WALKER];
+    answer = engine_canonical(input.walker, input.walker_length, out, sizeof out, told);
+}
+
 static void call_count(void)
 {
     answer = engine_count(tally, 0, told);
@@ -184,9 +212,9 @@ static const struct {
 } functions[] = {
     {"engine_judge", call_judge, ENGINE_JUDGE_STACK},       {"engine_survey", call_survey, ENGINE_SURVEY_STACK},
     {"engine_witness", call_witness, ENGINE_WITNESS_STACK}, {"engine_quick", call_quick, ENGINE_QUICK_STACK},
-    {"engine_single", call_single, ENGINE_SINGLE_STACK},    {"engine_count", call_count, ENGINE_COUNT_STACK},
-    {"engine_percent", call_percent, ENGINE_PERCENT_STACK}, {"engine_tally", call_tally, ENGINE_TALLY_STACK},
-    {"engine_report", call_report, ENGINE_REPORT_STACK},
+    {"engine_single", call_single, ENGINE_SINGLE_STACK},    {"engine_canonical", call_canonical, ENGINE_CANONICAL_STACK},
+    {"engine_count", call_count, ENGINE_COUNT_STACK},       {"engine_percent", call_percent, ENGINE_PERCENT_STACK},
+    {"engine_tally", call_tally, ENGINE_TALLY_STACK},       {"engine_report", call_report, ENGINE_REPORT_STACK},
 };
 
 /* ---- measuring */
@@ -233,20 +261,23 @@ static size_t most_of(void (*call)(void))
 }
 
 /* That the inputs are what they should be: refused, not accepted and accepted; nine blocks; a survey that ends with Open 64; two plans that
- * are written. */
+ * are written; a form of six blocks, and one that 17 refuses. */
 static int inputs_right(void)
 {
     for (int number = 0; number < INPUTS; number++) {
         make_input(number);
         call_judge();
         int walker = number / LETTERS, letter = number % LETTERS;
-        if (answer != (walker == 0 || letter == 0 ? 2u : walker == 1 ? 1u : 0u) || (letter > 2 && input.letter_length != LETTER))
+        if (answer != (walker == NONE || letter == 0 ? 2u : walker == PASSING ? 0u : 1u) || (letter > 2 && input.letter_length != LETTER))
             return 0;
         call_survey();
-        if (walker == 1 && (answer != 1 || told[0] != 64))
+        if (walker == LARGEST && (answer != 1 || told[0] != 64))
             return 0;
         call_witness();
-        if (walker != 0 && (answer != 0 || told[0] != LETTER))
+        if (walker != NONE && (answer != 0 || told[0] != LETTER))
+            return 0;
+        call_canonical();
+        if (walker != NONE && (answer != (walker == SPREAD) || told[0] != (walker == SPREAD ? 17 : WALKER)))
             return 0;
     }
     return 1;
@@ -262,7 +293,7 @@ int main(void)
     }
     for (size_t i = 0; i < sizeof functions / sizeof functions[0]; i++) {
         size_t most = most_of(functions[i].call);
-        printf("%-16s%8zu bytes of stack, at most %zu\n", functions[i].name, most, functions[i].limit);
+        printf("%-18s%8zu bytes of stack, at most %zu\n", functions[i].name, most, functions[i].limit);
         if (most > functions[i].limit) {
             fprintf(stderr, "FAILED: %s takes more stack than engine.h says\n", functions[i].name);
             status = 1;

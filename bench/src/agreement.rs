@@ -1,6 +1,6 @@
 //! Comparison of the implementations on many small automata and trees, good files and damaged ones.
 use crate::{
-    automaton::{Automaton, Rule},
+    automaton::{Automaton, Rule, EVERY_PLACE},
     judges::{self, Judges},
     random::Random,
     shapes::{self, Shape},
@@ -43,9 +43,8 @@ pub fn compare() -> Result<Counts, String> {
 /// Document 01's automaton A, which goes down the right parts and accepts where the leaf there is 1, with its cases.
 fn compare_example(counts: &mut Counts) -> Result<(), String> {
     let rules = [[2, 0, 0, 3, 0], [2, 0, 2, 3, 0], [1, 0, 2, 1, 1], [2, 1, 2, 1, 1]];
-    let rule = |[symbol, state, place, step, next]: [u8; 5]| Rule { symbol, state, place, step, next };
-    let automaton =
-        Automaton { states: 2, symbols: 3, initial: 1, accepting: 2, branches: 4, rules: rules.map(rule).into() };
+    let rules = rules.map(Rule::from_bytes).into();
+    let automaton = Automaton { states: 2, symbols: 3, initial: 1, accepting: 2, branches: 4, rules };
     let judges = Judges::prepare(&automaton.write())?.ok_or("document 01's example was refused")?;
     let cases: [(&[u8], Verdict); 5] = [
         (&[2, 0, 1], Verdict::Accepted),
@@ -114,6 +113,27 @@ pub fn small_automaton(random: &mut Random) -> Automaton {
             next: random.pick(&used) as u8,
         };
         if rule.check(&automaton).is_ok() || random.below(1000) == 0 {
+            automaton.rules.push(rule);
+        }
+    }
+    automaton
+}
+
+/// Records more, until there are `count`: copies, place 3's own places, and, in one of 60, another byte.
+pub fn with_repeats(mut automaton: Automaton, count: usize, random: &mut Random) -> Automaton {
+    while !automaton.rules.is_empty() && automaton.rules.len() < count {
+        let mut rule = random.pick(&automaton.rules);
+        if rule.place == EVERY_PLACE && random.below(2) == 0 {
+            rule.place = random.below(3) as u8;
+        }
+        if random.below(60) == 0 {
+            match random.below(3) {
+                0 => rule.place = random.below(4) as u8,
+                1 => rule.step = random.below(4) as u8,
+                _ => rule.next = random.below(automaton.states) as u8,
+            }
+        }
+        if rule.check(&automaton).is_ok() {
             automaton.rules.push(rule);
         }
     }

@@ -42,11 +42,11 @@ fn exceeds(set: u32, count: usize) -> bool {
 }
 
 impl Rule {
-    fn from_bytes(bytes: &[u8]) -> Rule {
-        Rule { symbol: bytes[0], state: bytes[1], place: bytes[2], step: bytes[3], next: bytes[4] }
+    pub fn from_bytes([symbol, state, place, step, next]: [u8; 5]) -> Rule {
+        Rule { symbol, state, place, step, next }
     }
 
-    fn bytes(self) -> [u8; 5] {
+    pub fn bytes(self) -> [u8; 5] {
         [self.symbol, self.state, self.place, self.step, self.next]
     }
 
@@ -56,7 +56,7 @@ impl Rule {
     }
 
     /// The rule at each place where it applies, as bytes.
-    fn spread(self) -> impl Iterator<Item = [u8; 5]> {
+    pub fn spread(self) -> impl Iterator<Item = [u8; 5]> {
         (0..EVERY_PLACE)
             .filter(move |&place| self.applies_at(place.into()))
             .map(move |place| Rule { place, ..self }.bytes())
@@ -86,13 +86,23 @@ impl Automaton {
         self.branches >> symbol & 1 == 1
     }
 
-    /// Whether no two rules have one symbol, state and place, with place 3 spread and equal rules taken once (document 02, W2): sorted, two
-    /// such rules would stand side by side.
-    pub fn is_single(&self) -> bool {
+    /// The rules with place 3 spread, as bytes in rising order, equal ones once.
+    fn spread(&self) -> Vec<[u8; 5]> {
         let mut rules: Vec<[u8; 5]> = self.rules.iter().flat_map(|rule| rule.spread()).collect();
         rules.sort_unstable();
         rules.dedup();
-        rules.windows(2).all(|pair| pair[0][..3] != pair[1][..3])
+        rules
+    }
+
+    /// Whether no two rules have one symbol, state and place, with place 3 spread and equal rules taken once (document 02, W2): sorted, two
+    /// such rules would stand side by side.
+    pub fn is_single(&self) -> bool {
+        self.spread().windows(2).all(|pair| pair[0][..3] != pair[1][..3])
+    }
+
+    /// The automaton in its one form (document 02, W4), which may have more rules than a file.
+    pub fn canonical(&self) -> Automaton {
+        Automaton { rules: self.spread().into_iter().map(Rule::from_bytes).collect(), ..*self }
     }
 
     /// Reads a file. Refusals 1 to 9.
@@ -108,8 +118,8 @@ impl Automaton {
             rules: Vec::with_capacity(rules),
         };
         automaton.check_sets()?;
-        for (place, bytes) in content[20..20 + 5 * rules].chunks_exact(5).enumerate() {
-            let rule = Rule::from_bytes(bytes);
+        for (place, bytes) in content[20..20 + 5 * rules].as_chunks().0.iter().enumerate() {
+            let rule = Rule::from_bytes(*bytes);
             rule.check(&automaton).or_else(|number| refused(number, place))?;
             automaton.rules.push(rule);
         }

@@ -20,6 +20,11 @@ pub fn single(file: &[u8]) -> Result<bool, Refusal> {
     ::engine::single(file).map_err(refusal)
 }
 
+/// Writes the one form of an automaton's file to the front of the output; its length, or the refusal.
+pub fn canonical(file: &[u8], out: &mut [u8]) -> Result<usize, Refusal> {
+    ::engine::canonical(file, out).map_err(refusal)
+}
+
 /// The engine's tally of trees' files end to end.
 pub fn tally(automaton: &[u8], trees: &[u8]) -> Result<Tally, Refusal> {
     let mut tally = ::engine::Tally::default();

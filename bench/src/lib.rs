@@ -1,14 +1,17 @@
-//! Judging, the survey, the quick check, single and the percent in Rust, written from documents 01 and 02 alone; and the measuring of judging, the
-//! survey and single: the engine beside these. One call takes the bytes of an automaton's file and of trees' files end to end, and gives the
-//! tally; or the bytes of an automaton's file, and gives the survey's verdict and plan.
+//! Judging, the survey, the quick check, single, the one form and the percent in Rust, written from documents 01 and 02 alone; and the measuring
+//! of judging, the survey, single and the one form: the engine beside these. One call takes the bytes of an automaton's file and of trees' files
+//! end to end, and gives the tally; or the bytes of an automaton's file, and gives the survey's verdict and plan, or the file in its one form.
 pub mod agreement;
 pub mod automaton;
 pub mod batch;
 pub mod blocks;
+pub mod canonical;
 pub mod configurations;
 #[cfg(feature = "engine")]
 mod engine;
 pub mod families;
+#[cfg(feature = "engine")]
+mod forms;
 mod judges;
 mod measure;
 mod plain;
@@ -24,7 +27,7 @@ mod surveys;
 pub mod tables;
 pub mod tree;
 
-/// Why a file is refused: the number of the line of document 01's table, and the place that the line names.
+/// Why an input is refused: the number of the line of document 01's table or of document 02's requests, and the place that the line names.
 #[derive(Clone, Copy, Debug, PartialEq, Eq)]
 pub struct Refusal {
     pub number: u32,
@@ -70,5 +73,7 @@ pub fn run() -> Result<(), String> {
     surveys::run()?;
     #[cfg(feature = "engine")]
     singles::run()?;
+    #[cfg(feature = "engine")]
+    forms::run()?;
     Ok(())
 }

@@ -29,6 +29,7 @@ extern "C" {
     ) -> u32;
     fn engine_quick(file: *const u8, length: usize, told: *mut Told) -> u32;
     fn engine_single(file: *const u8, length: usize, told: *mut Told) -> u32;
+    fn engine_canonical(file: *const u8, length: usize, out: *mut u8, out_length: usize, told: *mut Told) -> u32;
     fn engine_count(tally: *mut [u32; 3], outcome: u32, told: *mut Told) -> u32;
     fn engine_percent(accepted: u32, other: u32) -> u32;
     fn engine_tally(
@@ -80,6 +81,11 @@ pub fn quick(file: &[u8]) -> (u32, Told) {
 pub fn single(file: &[u8]) -> (u32, Told) {
     // SAFETY: the pointer is of a slice, with its length; `told` is written to, and is the call's own.
     telling(|told| unsafe { engine_single(file.as_ptr(), file.len(), told) })
+}
+
+pub fn canonical(file: &[u8], out: &mut [u8]) -> (u32, Told) {
+    // SAFETY: both pointers are of slices, with their lengths; `out` is lent to be written to, and `told` is the call's own.
+    telling(|told| unsafe { engine_canonical(file.as_ptr(), file.len(), out.as_mut_ptr(), out.len(), told) })
 }
 
 pub fn count(tally: &mut [u32; 3], outcome: u32) -> (u32, Told) {

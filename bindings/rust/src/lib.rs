@@ -1,10 +1,13 @@
-//! The engine for tree-walking automata, from its static library: judging, the survey and its plan's tree, the quick check, single, the
-//! tally, and the report.
+//! The engine for tree-walking automata, from its static library: judging, the survey and its plan's tree, the quick check, single, the one
+//! form of an automaton's file, the tally, and the report.
 //! Files are given as their bytes; every input is answered, a bad file by its refusal. Calls share nothing, and may be made by any number
 //! of threads; `bindings/engine.h` says how much stack each takes.
 mod declared;
 
 use declared::Told;
+
+/// The most bytes that an automaton's file has.
+pub const AUTOMATON: usize = 3072;
 
 /// The most bytes that a tree's file has.
 pub const TREE: usize = 4608;
@@ -132,6 +135,16 @@ pub fn single(file: &[u8]) -> Result<bool, Refusal> {
     match declared::single(file) {
         (0, _) => Ok(true),
         (1, _) => Ok(false),
+        (_, told) => Err(Refusal::of(told)),
+    }
+}
+
+/// An automaton's file in its one form, at the front of the output; its length. The form has the same counts of states and symbols, the same three
+/// sets, and the rules with place 3 spread over places 0, 1 and 2, equal ones once, in rising order of their five bytes. Later bytes stay, and a
+/// call that is refused changes none. No output of `AUTOMATON` bytes is too short.
+pub fn canonical(file: &[u8], out: &mut [u8]) -> Result<usize, Refusal> {
+    match declared::canonical(file, out) {
+        (0, [length, ..]) => Ok(length),
         (_, told) => Err(Refusal::of(told)),
     }
 }

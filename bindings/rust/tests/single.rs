@@ -1,8 +1,8 @@
 //! Single, as document 02's W2 has it: the cases of its readings, and the engine beside the implementation in Rust on automata by chance whose
 //! records say rules more than once, half of the files damaged.
 use bench::{
-    agreement::{damage, small_automaton},
-    automaton::{Automaton, Rule, EVERY_PLACE, MOST_RULES},
+    agreement::{damage, small_automaton, with_repeats},
+    automaton::{Automaton, Rule, MOST_RULES},
     families::FAMILIES,
     random::Random,
 };
@@ -10,13 +10,9 @@ use engine::{judge, single, survey, File, Refusal, PLAN};
 
 const AUTOMATA: u64 = 8000;
 
-fn rule([symbol, state, place, step, next]: [u8; 5]) -> Rule {
-    Rule { symbol, state, place, step, next }
-}
-
 /// Of two states and three symbols, of which 2 is the branch.
 fn automaton(rules: &[[u8; 5]]) -> Automaton {
-    let rules = rules.iter().copied().map(rule).collect();
+    let rules = rules.iter().copied().map(Rule::from_bytes).collect();
     Automaton { states: 2, symbols: 3, initial: 1, accepting: 2, branches: 4, rules }
 }
 
@@ -53,27 +49,6 @@ fn second_rules() {
     told(&[[2, 0, 1, 1, 1], [2, 0, 2, 1, 1]], true);
     told(&[[2, 0, 1, 1, 1], [2, 1, 1, 1, 1]], true);
     told(&[[2, 0, 1, 1, 1], [1, 0, 1, 1, 1]], true);
-}
-
-/// Records more, until there are `count`: copies, place 3's own places, and, in one of 60, another byte.
-fn with_repeats(mut automaton: Automaton, count: usize, random: &mut Random) -> Automaton {
-    while !automaton.rules.is_empty() && automaton.rules.len() < count {
-        let mut rule = random.pick(&automaton.rules);
-        if rule.place == EVERY_PLACE && random.below(2) == 0 {
-            rule.place = random.below(3) as u8;
-        }
-        if random.below(60) == 0 {
-            match random.below(3) {
-                0 => rule.place = random.below(4) as u8,
-                1 => rule.step = random.below(4) as u8,
-                _ => rule.next = random.below(automaton.states) as u8,
-            }
-        }
-        if rule.check(&automaton).is_ok() {
-            automaton.rules.push(rule);
-        }
-    }
-    automaton
 }
 
 /// The first rule for each symbol, state and place, so that the automaton is single.

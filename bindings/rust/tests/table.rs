@@ -4,18 +4,15 @@ use bench::{
     blocks, tree,
 };
 use engine::{
-    count, judge, percent, quick, single, survey, witness, File, Outcome, Quick, Refusal, Survey, Tally, Verdict, PLAN,
+    canonical, count, judge, percent, quick, single, survey, witness, File, Outcome, Quick, Refusal, Survey, Tally,
+    Verdict, PLAN,
 };
 
 const RULES: [[u8; 5]; 4] = [[2, 0, 0, 3, 0], [2, 0, 2, 3, 0], [1, 0, 2, 1, 1], [2, 1, 2, 1, 1]];
 
-fn rule([symbol, state, place, step, next]: [u8; 5]) -> Rule {
-    Rule { symbol, state, place, step, next }
-}
-
 /// The example's automaton: it goes down the right parts and accepts where the leaf there is 1.
 fn example() -> Automaton {
-    let rules = RULES.map(rule).into();
+    let rules = RULES.map(Rule::from_bytes).into();
     Automaton { states: 2, symbols: 3, initial: 1, accepting: 2, branches: 4, rules }
 }
 
@@ -45,6 +42,7 @@ fn automaton_refused(automaton: &[u8], number: u32, place: usize) {
     assert_eq!(survey(automaton, &mut [0; PLAN]), refused(number, File::Automaton, place));
     assert_eq!(quick(automaton), refused(number, File::Automaton, place));
     assert_eq!(single(automaton), refused(number, File::Automaton, place));
+    assert_eq!(canonical(automaton, &mut []), refused(number, File::Automaton, place));
     assert_eq!(witness(automaton, &[], &mut []), refused(number, File::Automaton, place));
 }
 
@@ -86,7 +84,7 @@ fn automata() {
 /// 97 rules need one block, 98 two.
 #[test]
 fn blocks_needed() {
-    let of = |count: usize| Automaton { rules: vec![rule(RULES[0]); count], ..example() };
+    let of = |count: usize| Automaton { rules: vec![Rule::from_bytes(RULES[0]); count], ..example() };
     assert_eq!(single(&of(97).write()), Ok(true));
     assert_eq!((of(97).write().len(), of(98).write().len()), (512, 1024));
     automaton_refused(&padded(&of(97).write()[..508], 2), 5, 1);

@@ -1,0 +1,84 @@
+#!/usr/bin/env python3
+"""Tests tools/example and tools/convert with stand-ins for the toolchain and the program, in a folder of its own: what is missing, and that what stood
+in the file to write stays where nothing was written."""
+import os, shutil, subprocess, tempfile, unittest
+
+HERE = os.path.dirname(os.path.abspath(__file__))
+# Writes what it read behind the words made of; says what stands in words.
+PROGRAM = '''#!/bin/sh
+printf 'made of ' && cat
+[ ! -e words ] || cat words >&2
+[ ! -e status ] || exit "$(cat status)"
+'''
+TOOLCHAIN = '''#!/bin/sh
+[ "$(pwd)" = "$ROOT/project" ] && [ "$*" = "check %s" ]
+'''
+
+
+class Writer:
+    name = output = None
+
+    def setUp(self):
+        folder = tempfile.TemporaryDirectory()
+        self.addCleanup(folder.cleanup)
+        self.root = folder.name
+        for name, content in [('rt', TOOLCHAIN % self.name), ('project/target/bin/' + self.name, PROGRAM)]:
+            self.write(name, content)
+            os.chmod(os.path.join(self.root, name), 0o755)
+        os.makedirs(os.path.join(self.root, 'project/tools'))
+        for script in self.name, 'writer':
+            shutil.copy(os.path.join(HERE, script), os.path.join(self.root, 'project/tools', script))
+        self.write('mine/a walker', 'a walker')
+        self.write('mine/a file', 'old')
+
+    def write(self, name, content):
+        path = os.path.join(self.root, name)
+        os.makedirs(os.path.dirname(path), exist_ok=True)
+        with open(path, 'w') as file:
+            file.write(content)
+
+    def run_script(self, *words):
+        """The status, what was said, and what stands in the file to write."""
+        environment = dict(os.environ, PATH=self.root + ':' + os.environ['PATH'], ROOT=self.root)
+        run = subprocess.run([self.root + '/project/tools/' + self.name, *words], capture_output=True, text=True, env=environment,
+                             cwd=os.path.join(self.root, 'mine'), timeout=60)
+        self.assertEqual(run.stdout, '')
+        with open(os.path.join(self.root, 'mine/a file')) as file:
+            return run.returncode, run.stderr, file.read()
+
+    def test_written(self):
+        self.assertEqual(self.run_script('a walker', 'a file'), (0, '', 'made of a walker'))
+
+    def test_none(self):
+        self.write('mine/words', 'walker refused=1 place=0\n')
+        self.assertEqual(self.run_script('a walker', 'a file'), (1, f'tools/{self.name}: walker refused=1 place=0\n', 'old'))
+
+    def test_failure(self):
+        self.write('mine/status', '3')
+        self.assertEqual(self.run_script('a walker', 'a file'), (1, f'tools/{self.name}: the program failed (3)\n', 'old'))
+
+    def test_missing(self):
+        status, said, left = self.run_script('no walker', 'a file')
+        self.assertEqual((status, left), (1, 'old'))
+        self.assertIn('no walker: there is no such file', said)
+        status, said, left = self.run_script('a walker', 'none/file')
+        self.assertEqual((status, left), (1, 'old'))
+        self.assertIn('none/file: the file could not be written', said)
+
+    def test_words(self):
+        for words in [], ['a walker'], ['a walker', 'a file', 'another']:
+            status, said, left = self.run_script(*words)
+            self.assertEqual((status, left), (2, 'old'))
+            self.assertIn(f'tools/{self.name} WALKER {self.output}', said)
+
+
+class Example(Writer, unittest.TestCase):
+    name, output = 'example', 'LETTER'
+
+
+class Convert(Writer, unittest.TestCase):
+    name, output = 'convert', 'FORM'
+
+
+if __name__ == '__main__':
+    unittest.main()
