@@ -40,7 +40,7 @@ use Rattle.block_writer.specs.Written.{roomCheck, Filled, filled, filledAfter}
 use Rattle.block_writer.specs.declared.Written.{Written}
 use Rattle.block_writer.proofs.Answers.{room-enough, room-passed, after-bytes, after-kept}
 use Rattle.rule_order.proofs.Ordering.{ordered-rising, ordered-same, rising-unique}
-use Rattle.canonical.specs.Canonical.{remaining, canonicalHeader, canonicalFile, formCheck, writtenFor, canonicalOf}
+use Rattle.canonical.specs.Canonical.{remaining, canonicalHeader, canonicalFile, manyCheck, formCheck, formCheckOf, writtenFor, canonicalOf}
 use Rattle.canonical.specs.Promise.{FormWritten, Promise}
 use Rattle.canonical.proofs.Form.{remaining-placed, form-reads, form-spread, form-again}
 
@@ -54,19 +54,24 @@ form-long h rules =
     payload-length header (recordsOf rules) ∙ ap (λ (k : ℕ). 20 + k) (records-length rules) in
     file-length (payloadOf header (recordsOf rules)) ∙ ap (λ (k : ℕ). 512 * blocksNeeded k) n
 
-pub form-many : (n room : ℕ) → 512 < n → formCheck n room ≡ refused Fault.Rules 2 0
-unfolding formCheck
-form-many n room l = rw (lt-ltb 512 n l)
+pub of-many : (n room : ℕ) → 512 < n → formCheckOf n room ≡ refused Fault.Rules 2 0
+unfolding formCheckOf
+of-many n room l = rw (lt-ltb 512 n l)
 
-pub form-few : (n room : ℕ) → n ≤ 512 → formCheck n room ≡ roomCheck (512 * blocksNeeded (20 + 5 * n)) room
-unfolding formCheck
-form-few n room l = rw (le-ltb 512 n l)
+pub of-few : (n room : ℕ) → n ≤ 512 → formCheckOf n room ≡ roomCheck (512 * blocksNeeded (20 + 5 * n)) room
+unfolding formCheckOf
+of-few n room l = rw (le-ltb 512 n l)
 
-pub form-passed : (n room : ℕ) → formCheck n room ≡ Passed → (n ≤ 512) × (512 * blocksNeeded (20 + 5 * n) ≤ room)
-unfolding formCheck
-form-passed n room e =
+pub of-passed : (n room : ℕ) → formCheckOf n room ≡ Passed → (n ≤ 512) × (512 * blocksNeeded (20 + 5 * n) ≤ room)
+unfolding formCheckOf
+of-passed n room e =
     let both = both-passed (refuseIf (lib.Dec.ltb 512 n) Fault.Rules 2 0) (roomCheck (512 * blocksNeeded (20 + 5 * n)) room) e in
     (ltb-false 512 n (if-passed _ Fault.Rules 2 0 (both .0)), room-passed (512 * blocksNeeded (20 + 5 * n)) room (both .1))
+
+-- the checks go by the number of rules alone
+pub form-is : (h : Header) (rules : List Rule) (room : ℕ) → formCheck h rules room ≡ formCheckOf (length rules) room
+unfolding formCheck formCheckOf
+form-is h rules room = rw (form-long h rules)
 
 pub read-is : (s out : List ℕ) (h : Header) → parsed s ≡ Parsed.Read h → canonicalOf s out ≡ writtenFor h (remaining h (content s)) out
 unfolding canonicalOf
@@ -94,12 +99,12 @@ formed s out n told = by (parsed s) refl
     by (Parsed.Read h) e =
         let rules = remaining h (content s) in
         let is = read-is s out h e in
-        let a = after-bytes (formCheck (length rules) (length out)) (canonicalFile h rules) out n (ap (λ (x : Filled). x .answer) (sym is) ∙ told) in
+        let a = after-bytes (formCheck h rules (length out)) (canonicalFile h rules) out n (ap (λ (x : Filled). x .answer) (sym is) ∙ told) in
         let bytes = ap (λ (x : Filled). x .out) is ∙ a .2 in
         record {
           header = h;
           read = e;
-          few = form-passed (length rules) (length out) (a .0) .0;
+          few = of-passed (length rules) (length out) (sym (form-is h rules (length out)) ∙ a .0) .0;
           long = a .1;
           bytes = bytes;
           front = ap (take n) bytes ∙ take-at (canonicalFile h rules) (drop n out) n (sym (a .1));
@@ -135,7 +140,15 @@ kept s out r told = by (parsed s) refl
         let rules = remaining h (content s) in
         let is = read-is s out h e in
         ap (λ (x : Filled). x .out) is
-        ∙ after-kept (formCheck (length rules) (length out)) (canonicalFile h rules) out r (ap (λ (x : Filled). x .answer) (sym is) ∙ told)
+        ∙ after-kept (formCheck h rules (length out)) (canonicalFile h rules) out r (ap (λ (x : Filled). x .answer) (sym is) ∙ told)
+
+unless-stopped : (s out : List ℕ) (h : Header) → parsed s ≡ Parsed.Read h → manyCheck (length (remaining h (content s))) ≡ Passed
+    → roomCheck (length (canonicalFile h (remaining h (content s)))) (length out) ≡ Passed
+    → canonicalOf s out .answer ≡ Written.Bytes (length (canonicalFile h (remaining h (content s))))
+unfolding writtenFor formCheck
+unless-stopped s out h e many room =
+    let both : formCheck h (remaining h (content s)) (length out) ≡ Passed = rw (many, room) in
+    ap (λ (x : Filled). x .answer) (read-is s out h e ∙ ap (λ (c : Check). filledAfter c (canonicalFile h (remaining h (content s))) out) both)
 
 -- ---- "Every letter gets the same answer under it."
 
@@ -183,17 +196,6 @@ module _ (s out : List ℕ) (n : ℕ) (told : canonicalOf s out .answer ≡ Writ
   pub same-singleness : singleOf file ≡ singleOf s
   unfolding singleOf
   same-singleness = rw (file-reads, f .read) (ap singleIf (same-single (spreadRules header (content file)) (spreadRules (f .header) (content s)) same-spread))
-
-pub canonical-right : (s out : List ℕ) → Promise s out (canonicalOf s out)
-canonical-right s out =
-    record {
-      kept = kept s out;
-      form = λ h e n told.
-          let g = formed s out n told in
-          let same : g .header ≡ h = cc (g .read, e) in
-          subst (λ (x : Header). FormWritten x (content s) out (canonicalOf s out .out) n) same (form-written s out n g);
-      letters = same-judged s out;
-    }
 
 -- ---- "Two files that are not refused give equal output exactly when those counts, the three sets and the set of spread rules agree"
 
@@ -281,9 +283,25 @@ writes-again s out n told out′ room =
     let form = canonicalFile (g .header) rules in
     let again = form-again s (g .header) (g .read) (g .few) in
     let fits : 512 * blocksNeeded (20 + 5 * length rules) ≤ length out′ = omega (arith, g .long, form-long (g .header) rules) in
-    let passes : formCheck (length rules) (length out′) ≡ Passed = form-few (length rules) (length out′) (g .few) ∙ room-enough _ (length out′) fits in
+    let passes : formCheck header rules (length out′) ≡ Passed =
+    form-is header rules (length out′) ∙ of-few (length rules) (length out′) (g .few) ∙ room-enough _ (length out′) fits in
     let wrote : canonicalOf form out′ ≡ filledAfter Passed form out′ =
     read-is form out′ header (form-reads s (g .header) (g .read) (g .few) .read)
     ∙ ap (λ (l : List Rule). writtenFor header l out′) again
     ∙ ap (λ (c : Check). filledAfter c form out′) passes in
     same-again (take n (canonicalOf s out .out)) form out′ n (g .front) (g .long) wrote
+
+-- ---- what is promised of a call
+
+pub canonical-right : (s out : List ℕ) → Promise s out (canonicalOf s out)
+canonical-right s out =
+    record {
+      kept = kept s out;
+      unless-stopped = unless-stopped s out;
+      form = λ h e n told.
+          let g = formed s out n told in
+          let same : g .header ≡ h = cc (g .read, e) in
+          subst (λ (x : Header). FormWritten x (content s) out (canonicalOf s out .out) n) same (form-written s out n g);
+      letters = same-judged s out;
+      again = writes-again s out;
+    }

@@ -17,14 +17,14 @@ use Rattle.block_writer.specs.declared.Written.{Written}
 use Rattle.block_writer.proofs.Answers.{told}
 use Rattle.blocks.proofs.Stores.{sets-front}
 use Rattle.rule_order.specs.Listed.{Room, Put}
-use Rattle.canonical.specs.Canonical.{canonicalHeader, canonicalFile, formCheck, writtenFor}
-use Rattle.canonical.proofs.OneForm.{form-passed}
+use Rattle.canonical.specs.Canonical.{canonicalHeader, canonicalFile, formCheck, formCheckOf, writtenFor}
+use Rattle.canonical.proofs.OneForm.{form-is, of-passed}
 
 -- records that pass are within the limits of the writer
-pub records-fit : (records out : List ℕ) → length records % 5 ≡ 0 → formCheck (length records / 5) (length out) ≡ Passed
+pub records-fit : (records out : List ℕ) → length records % 5 ≡ 0 → formCheckOf (length records / 5) (length out) ≡ Passed
     → (length records ≤ 2560) × (512 * blocksNeeded (20 + length records) ≤ length out)
 records-fit records out whole passed =
-    let p = form-passed (length records / 5) (length out) passed in
+    let p = of-passed (length records / 5) (length out) passed in
     let e : 5 * (length records / 5) ≡ length records = omega arith in
     (omega (arith, p .0), rw e at (p .1))
 
@@ -32,11 +32,13 @@ module _ (h : Header) (records : List ℕ) (rules : List Rule) (out : List ℕ) 
   count-is : length records / 5 ≡ length rules
   count-is = let n : length records ≡ 5 * length rules = ap length is ∙ records-length rules in omega arith
 
-  pub stopped : (r : Refusal) → formCheck (length records / 5) (length out) ≡ Refused r → filled (Written.Refused r) out ≡ writtenFor h rules out
+  pub stopped : (r : Refusal) → formCheckOf (length records / 5) (length out) ≡ Refused r → filled (Written.Refused r) out ≡ writtenFor h rules out
   unfolding writtenFor
-  stopped r e = rw (← count-is, e)
+  stopped r e =
+      let check : formCheck h rules (length out) ≡ Refused r = form-is h rules (length out) ∙ ap (λ (k : ℕ). formCheckOf k (length out)) (sym count-is) ∙ e in
+      rw check
 
-  pub written : (header : Header) (n : ℕ) (after : List ℕ) → formCheck (length records / 5) (length out) ≡ Passed
+  pub written : (header : Header) (n : ℕ) (after : List ℕ) → formCheckOf (length records / 5) (length out) ≡ Passed
       → header ≡ canonicalHeader h (length records / 5) → n ≡ length (fileOf (payloadOf header records)) → after ≡ fileOf (payloadOf header records) ++ drop n out
       → filled (Written.Bytes n) after ≡ writtenFor h rules out
   unfolding writtenFor
@@ -44,7 +46,7 @@ module _ (h : Header) (records : List ℕ) (rules : List Rule) (out : List ℕ) 
       let file : fileOf (payloadOf header records) ≡ canonicalFile h rules =
       ap (λ (x : Header). fileOf (payloadOf x records)) (same ∙ ap (canonicalHeader h) count-is)
       ∙ ap (λ (x : List ℕ). fileOf (payloadOf (canonicalHeader h (length rules)) x)) is in
-      let check : formCheck (length rules) (length out) ≡ Passed = ap (λ (k : ℕ). formCheck k (length out)) (sym count-is) ∙ passed in
+      let check : formCheck h rules (length out) ≡ Passed = form-is h rules (length out) ∙ ap (λ (k : ℕ). formCheckOf k (length out)) (sym count-is) ∙ passed in
       rw check (told n after (canonicalFile h rules) out (long ∙ ap length file) (bytes ∙ ap (λ (x : List ℕ). x ++ drop n out) file))
 
 -- the records at the front of the buffer

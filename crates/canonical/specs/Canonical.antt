@@ -1,6 +1,6 @@
 -- An automaton's file in its one form, what is answered to a file and a lent output, and what is left in the output. The quotations are of
 -- document 02, W4.
--- Interface: `remaining`, `canonicalHeader`, `canonicalFile`, `formCheck`, `writtenFor`, `canonicalOf`.
+-- Interface: `remaining`, `canonicalHeader`, `canonicalFile`, `manyCheck`, `formCheck`, `formCheckOf`, `writtenFor`, `canonicalOf`.
 use Prim.Native.Nat.{ℕ, _+_, _*_}
 use mathlib.Core.List.{List}
 use lib.Dec.{ltb}
@@ -32,13 +32,21 @@ canonicalHeader h n =
 abbrev pub canonicalFile : Header → List Rule → List ℕ
 canonicalFile h rules = automatonFile (canonicalHeader h (length rules)) rules
 
--- "17 .. more than 512 rules remain, place 0; then 13 for a short output, place the length needed"
-unfoldable pub formCheck : (rules room : ℕ) → Check
-formCheck n room = refuseIf (ltb 512 n) Fault.Rules 2 0 andThen roomCheck (512 * blocksNeeded (20 + 5 * n)) room
+-- 17: "more than 512 rules remain, place 0"
+abbrev pub manyCheck : (rules : ℕ) → Check
+manyCheck n = refuseIf (ltb 512 n) Fault.Rules 2 0
+
+-- "17 .. then 13 for a short output, place the length needed"
+unfoldable pub formCheck : Header → List Rule → (room : ℕ) → Check
+formCheck h rules room = manyCheck (length rules) andThen roomCheck (length (canonicalFile h rules)) room
+
+-- the same by the number of rules alone, as the code has it (`OneForm.form-is`)
+unfoldable pub formCheckOf : (rules room : ℕ) → Check
+formCheckOf n room = manyCheck n andThen roomCheck (512 * blocksNeeded (20 + 5 * n)) room
 
 -- "bytes after the output are unchanged"
 unfoldable pub writtenFor : Header → List Rule → (out : List ℕ) → Filled
-writtenFor h rules out = filledAfter (formCheck (length rules) (length out)) (canonicalFile h rules) out
+writtenFor h rules out = filledAfter (formCheck h rules (length out)) (canonicalFile h rules) out
 
 -- "17, after the walker's own": of an automaton's file, by document 01's table at all times
 unfoldable pub canonicalOf : (file out : List ℕ) → Filled

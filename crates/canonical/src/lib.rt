@@ -19,12 +19,12 @@ ghost use Rattle.automaton.specs.Payload.{recordsOf};
 ghost use Rattle.automaton.specs.declared.Rule.{Rule};
 ghost use Rattle.block_writer.specs.Written.{filled};
 ghost use Rattle.rule_order.specs.Listed.{nextIn, listed};
-ghost use Rattle.canonical.specs.Canonical.{canonicalHeader, formCheck, writtenFor, canonicalOf};
+ghost use Rattle.canonical.specs.Canonical.{canonicalHeader, formCheckOf, writtenFor, canonicalOf};
 ghost use Rattle.canonical.specs.Promise.{Promise};
 
 // Refusal 17, then 13, for so many rules.
 fn form_check(rules: usize, room: usize) -> Check
-    ensures { λ r. ⌜ r ≡ formCheck rules room ⌝ }
+    ensures { λ r. ⌜ r ≡ formCheckOf rules room ⌝ }
 {
     if 512 < rules {
         return refused(Fault::Rules, 2, 0);

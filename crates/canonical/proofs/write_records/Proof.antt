@@ -5,14 +5,14 @@ use Prim.Native.Nat.{_/_}
 use mathlib.Core.Path.{_≡_, sym, _∙_}
 use lib.ListN.{length}
 use Rattle.refusal.specs.declared.Check.the-variants.{Passed}
-use Rattle.canonical.specs.Canonical.{formCheck}
-use Rattle.canonical.proofs.OneForm.{form-passed}
+use Rattle.canonical.specs.Canonical.{formCheckOf}
+use Rattle.canonical.proofs.OneForm.{of-passed}
 use Rattle.canonical.proofs.Writing.{records-fit, stopped, written}
 use Rattle.canonical.proofs.write_records.Statement.{statement}
 use Rattle.canonical.proofs.write_records.Tie as tie
 
 -- 17 and 13 passed
-passed : (c : tie.After-enum-told) → formCheck (length (c .before .before .before .before .before .args .records .now) / 5) (length (c .before .before .before .before .before .args .out .now)) ≡ Passed
+passed : (c : tie.After-enum-told) → formCheckOf (length (c .before .before .before .before .before .args .records .now) / 5) (length (c .before .before .before .before .before .args .out .now)) ≡ Passed
 passed c = sym (c .before .before .form-check .ensures) ∙ c .enum-told .given .1
 
 returns : tie.Need-returns
@@ -21,7 +21,7 @@ returns c rules is =
     stopped (a .header) (a .records .now) rules (a .out .now) is _ (sym (c .before .before .before .form-check .ensures) ∙ c .before .refusal .given .1)
 
 with-rules-requires : tie.Need-with-rules-requires
-with-rules-requires c κs = form-passed _ _ (passed c) .0
+with-rules-requires c κs = of-passed _ _ (passed c) .0
 
 write-automaton-requires : tie.Need-write-automaton-requires
 write-automaton-requires c κs =
