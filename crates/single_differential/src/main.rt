@@ -4,13 +4,10 @@
 use determinism::Singleness;
 use refusal::Refusal;
 use sampling::access::number;
-use sampling::random::chance;
-use sampling::random::draw;
 use sampling::random::seed;
 use sampling::report::count;
 use sampling::report::labelled;
 use sampling::report::text;
-use sampling::rules;
 use sampling::rules::Automaton;
 use search::files;
 
@@ -88,116 +85,6 @@ fn compare_data(
     compare(counts, family, files::front(&file, n), expected);
 }
 
-// A file that is cut, or of which a byte is another.
-fn compare_spoiled(
-    counts: &mut [usize],
-    random: &mut u64,
-    family: usize,
-    a: Automaton,
-    records: &[u8],
-) {
-    let mut file = [0u8; 3072];
-    let n = files::write_automaton(&mut file, a, records);
-    if chance(random, 1, 3) {
-        compare(
-            counts,
-            family,
-            files::front(&file, draw(random, n) / 512 * 512 + 1),
-            refused(1, 0),
-        );
-        return;
-    }
-    let at = draw(random, n);
-    files::damage(&mut file, at, draw(random, 255));
-    compare(counts, family, files::front(&file, n), refused(2, at / 512));
-}
-
-// A file whose kind is another, or a byte that has to be zero, or that has a block too many; its checks are right.
-fn compare_sealed(
-    counts: &mut [usize],
-    random: &mut u64,
-    family: usize,
-    a: Automaton,
-    records: &[u8],
-) {
-    let mut file = [0u8; 3072];
-    let n = files::write_automaton(&mut file, a, records);
-    let payload = 20 + 5 * (a.rules % 1024);
-    let by = draw(random, 255);
-    let expected = match draw(random, if n < 3072 { 4 } else { 3 }) {
-        0 => refused(3, 0),
-        1 => refused(6, 3),
-        2 => refused(6, 6),
-        _ => refused(5, n / 512),
-    };
-    if expected.number == 5 {
-        let more = files::seal(&mut file, payload + 508);
-        compare(counts, family, files::front(&file, more), expected);
-    } else {
-        files::damage(&mut file, expected.place, by);
-        files::seal(&mut file, payload);
-        compare(counts, family, files::front(&file, n), expected);
-    }
-}
-
-// Counts or sets that are out of their limits; the records stay.
-fn compare_header(
-    counts: &mut [usize],
-    random: &mut u64,
-    family: usize,
-    a: Automaton,
-    records: &[u8],
-) {
-    let states = if chance(random, 1, 3) { 25 } else { a.states };
-    let beyond = Automaton {
-        states,
-        symbols: a.symbols,
-        rules: a.rules,
-        initial: a.initial,
-        accepting: a.accepting | 2147483648,
-        branches: a.branches,
-    };
-    let expected = if states == 25 {
-        refused(4, 1)
-    } else {
-        refused(7, 12)
-    };
-    compare_data(counts, family, beyond, records, expected);
-}
-
-// A record gets a byte that has no such value.
-fn without_value(random: &mut u64, records: &mut [u8], i: usize) -> Answer {
-    rules::set(records, i, draw(random, 5), 200 + draw(random, 50));
-    refused(8, i)
-}
-
-// A record gets a move up at the root.
-fn up_from_root(random: &mut u64, records: &mut [u8], i: usize) -> Answer {
-    rules::set(records, i, rules::PLACE, draw(random, 2) * 3);
-    rules::set(records, i, rules::MOVE, 1);
-    refused(9, i)
-}
-
-fn spoil_record(random: &mut u64, records: &mut [u8], i: usize) -> Answer {
-    if chance(random, 1, 2) {
-        without_value(random, records, i)
-    } else {
-        up_from_root(random, records, i)
-    }
-}
-
-fn compare_record(
-    counts: &mut [usize],
-    random: &mut u64,
-    family: usize,
-    a: Automaton,
-    records: &mut [u8],
-) {
-    let i = draw(random, a.rules);
-    let expected = spoil_record(random, records, i);
-    compare_data(counts, family, a, records, expected);
-}
-
 fn compare_damaged(
     counts: &mut [usize],
     random: &mut u64,
@@ -205,12 +92,10 @@ fn compare_damaged(
     a: Automaton,
     records: &mut [u8],
 ) {
-    match draw(random, 6) {
-        0 => compare_spoiled(counts, random, family, a, records),
-        1 => compare_sealed(counts, random, family, a, records),
-        2 => compare_header(counts, random, family, a, records),
-        _ => compare_record(counts, random, family, a, records),
-    }
+    let mut file = [0u8; 3072];
+    let made = damaged::make(random, a, records, &mut file);
+    let expected = refused(made.number, made.place);
+    compare(counts, family, files::front(&file, made.length), expected);
 }
 
 // The automaton of that number, as it is and damaged.
