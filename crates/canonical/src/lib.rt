@@ -18,7 +18,8 @@ ghost use Rattle.automaton.specs.File.{WithinLimits};
 ghost use Rattle.automaton.specs.Payload.{recordsOf};
 ghost use Rattle.automaton.specs.declared.Rule.{Rule};
 ghost use Rattle.block_writer.specs.Written.{filled};
-ghost use Rattle.rule_order.specs.Listed.{nextIn, listed};
+ghost use Rattle.transitions.specs.Compiled.{nextIn};
+ghost use Rattle.rule_order.specs.Listed.{listed};
 ghost use Rattle.canonical.specs.Canonical.{canonicalHeader, formCheckOf, writtenFor, canonicalOf};
 ghost use Rattle.canonical.specs.Promise.{Promise};
 

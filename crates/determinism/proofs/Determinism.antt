@@ -30,10 +30,10 @@ use Rattle.automaton.specs.declared.Scope.{Scope}
 use Rattle.automaton.proofs.Bytes.{same-scope, same-move}
 use Rattle.automaton.proofs.Passed.{rule-in}
 use Rattle.transitions.specs.Transitions.{automatonOf}
-use Rattle.transitions.specs.Compiled.{Compiled}
+use Rattle.transitions.specs.Compiled.{Compiled, Next, nextIn}
 use Rattle.transitions.specs.Spread.{spreadRules}
 use Rattle.determinism.specs.Single.{Single, meet, equal, agree, agreesWith, single}
-use Rattle.determinism.specs.Determined.{Next, nextIn, choices, oneChoice, oneEach, onePlaces, oneSymbols, determined}
+use Rattle.determinism.specs.Determined.{choices, oneChoice, oneEach, onePlaces, oneSymbols, determined}
 use Rattle.determinism.proofs.Each.{each-has, each-same}
 use Rattle.transitions.proofs.Meaning.{transition-has}
 use Rattle.transitions.proofs.Spreading.{rule-same, spread-transition, IsTransition, spread-rule}

@@ -1,24 +1,14 @@
 -- Whether transitions are deterministic (the paper's Definition 19), computed: what single is read from (`Determinism.single-determined`).
--- Interface: `Next`, `nextIn`, `each`, `choices`, `oneChoice`, `oneEach`, `onePlaces`, `oneSymbols`, `determined`.
+-- Interface: `each`, `choices`, `oneChoice`, `oneEach`, `onePlaces`, `oneSymbols`, `determined`.
 use Prim.Native.Nat.{ℕ, zero, suc, _+_}
 use mathlib.Core.Bool.{Bool, true, _&&_}
-use mathlib.Core.List.{List}
 use lib.Count.{ones}
 use lib.Dec.{leb}
-use lib.ListN.{getD}
 use Rattle.model.specs.declared.Side.{Side}
 use Rattle.model.specs.declared.Place.{Place}
 use Rattle.model.specs.declared.Move.{Move}
 use Rattle.algorithms.specs.Automaton.{Automaton}
-use Rattle.transitions.specs.Compiled.{cellOf}
-
--- the set of next states for each symbol, place, move and state
-abbrev pub Next : Type 0
-Next = (symbol : ℕ) → Place → Move → (state : ℕ) → ℕ
-
--- what the cells of a compiled table hold
-abbrev pub nextIn : List ℕ → Next
-nextIn t σ τ μ p = getD t (cellOf σ τ μ p) 0
+use Rattle.transitions.specs.Compiled.{Next}
 
 -- a test holds of each of the first n numbers
 unfoldable pub each : (ℕ → Bool) → (n : ℕ) → Bool

@@ -14,8 +14,8 @@ ghost use Prim.Native.Nat.{_<_, _≤_};
 ghost use lib.Count.{ones};
 ghost use Rattle.algorithms.specs.Automaton.{Automaton};
 ghost use Rattle.automaton.specs.File.{WithinLimits};
-ghost use Rattle.transitions.specs.Compiled.{Compiled};
-ghost use Rattle.determinism.specs.Determined.{nextIn, oneChoice, oneEach, onePlaces, oneSymbols, determined};
+ghost use Rattle.transitions.specs.Compiled.{Compiled, nextIn};
+ghost use Rattle.determinism.specs.Determined.{oneChoice, oneEach, onePlaces, oneSymbols, determined};
 ghost use Rattle.determinism.specs.Single.{singleIf, singleOf};
 ghost use Rattle.determinism.specs.Singles.{SingleRight};
 

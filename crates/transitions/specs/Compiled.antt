@@ -1,5 +1,5 @@
 -- The compiled transitions: a set of next states for each of 32 symbols, 3 places, 4 moves and 24 states.
--- Interface: `cellOf`, `RuleFits`, `Stepped`, `Added`, `Compiled`, `Loaded`.
+-- Interface: `cellOf`, `Next`, `nextIn`, `RuleFits`, `Stepped`, `Added`, `Compiled`, `Loaded`.
 use Prim.Native.Nat.{ℕ, _+_, _*_, _<_}
 use mathlib.Core.Path.{_≡_}
 use mathlib.Core.List.{List}
@@ -18,6 +18,14 @@ use Rattle.transitions.specs.Transitions.{placeNumber, fits, withIf, add
 -- the cell of a symbol, a place, a move and a state
 abbrev pub cellOf : ℕ → Place → Move → ℕ → ℕ
 cellOf σ τ μ p = ((σ * 3 + placeNumber τ) * 4 + moveByte μ) * 24 + p
+
+-- the set of next states for each symbol, place, move and state
+abbrev pub Next : Type 0
+Next = (symbol : ℕ) → Place → Move → (state : ℕ) → ℕ
+
+-- what the cells of a table hold
+abbrev pub nextIn : List ℕ → Next
+nextIn t σ τ μ p = getD t (cellOf σ τ μ p) 0
 
 -- a rule's numbers are within the table
 pub record RuleFits (r : Rule) : Type 0 where
@@ -39,9 +47,9 @@ abbrev pub Added : RuleBytes → List ℕ → List ℕ → Type 0
 Added bytes = Cells (addedBy bytes)
 
 -- each of the 9,216 cells is the set of next states
-pub record Tabulates (next : ℕ → Place → Move → ℕ → ℕ) (t : List ℕ) : Type 0 where
+pub record Tabulates (next : Next) (t : List ℕ) : Type 0 where
   pub size : length t ≡ 9216
-  pub cells : (σ : ℕ) (τ : Place) (μ : Move) (p : ℕ) → σ < 32 → p < 24 → getD t (cellOf σ τ μ p) 0 ≡ next σ τ μ p
+  pub cells : (σ : ℕ) (τ : Place) (μ : Move) (p : ℕ) → σ < 32 → p < 24 → nextIn t σ τ μ p ≡ next σ τ μ p
 
 -- the table of an automaton
 abbrev pub Compiled : Automaton → List ℕ → Type 0

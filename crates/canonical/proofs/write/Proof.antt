@@ -12,9 +12,9 @@ use Rattle.automaton.specs.declared.Header.{Header}
 use Rattle.automaton.specs.declared.file.Parsed.{Parsed}
 use Rattle.automaton.proofs.Passed.{file-read, file-limits, contents-are, contents-fit}
 use Rattle.transitions.specs.Transitions.{automatonOf}
-use Rattle.transitions.specs.Compiled.{Compiled}
+use Rattle.transitions.specs.Compiled.{Compiled, nextIn}
 use Rattle.block_writer.specs.Written.{Filled}
-use Rattle.rule_order.specs.Listed.{nextIn, listed}
+use Rattle.rule_order.specs.Listed.{listed}
 use Rattle.rule_order.proofs.Listing.{listed-ordered}
 use Rattle.canonical.specs.Canonical.{writtenFor, canonicalOf}
 use Rattle.canonical.specs.Promise.{Promise}

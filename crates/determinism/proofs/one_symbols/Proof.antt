@@ -5,7 +5,8 @@ use borrow.Author.Tests.{not-true, not-false}
 use Prim.Native.Nat.{_-_, _≤_}
 use mathlib.Core.Path.{_≡_, sym, _∙_}
 use mathlib.Core.Bool.{true}
-use Rattle.determinism.specs.Determined.{nextIn, oneSymbols}
+use Rattle.transitions.specs.Compiled.{nextIn}
+use Rattle.determinism.specs.Determined.{oneSymbols}
 use Rattle.determinism.proofs.Each.{each-none, each-next, each-fails}
 use Rattle.determinism.proofs.one_symbols.Statement.{statement}
 use Rattle.determinism.proofs.one_symbols.Tie as tie

@@ -7,8 +7,8 @@ use Prim.Native.Nat.{ℕ, _≤_}
 use mathlib.Core.Bool.{Bool}
 use mathlib.Core.List.{List}
 use Rattle.algorithms.specs.Automaton.{Automaton}
-use Rattle.transitions.specs.Compiled.{Compiled}
-use Rattle.determinism.specs.Determined.{nextIn, oneSymbols, determined}
+use Rattle.transitions.specs.Compiled.{Compiled, nextIn}
+use Rattle.determinism.specs.Determined.{oneSymbols, determined}
 use Rattle.determinism.specs.Single.{singleIf}
 use Rattle.determinism.proofs.Determinism.{table-determined}
 use Rattle.determinism.proofs.single_prepared.Statement.{statement}

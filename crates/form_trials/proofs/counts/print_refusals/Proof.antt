@@ -1,9 +1,9 @@
--- `canonical_differential::print_refusals` ends, after the last number.
+-- `form_trials::counts::print_refusals` ends, after the last number.
 -- Assumes nothing.
 use borrow.Author.Needs.{needs}
 use Prim.Native.Nat.{_-_, _≤_}
-use Rattle.canonical_differential.proofs.print_refusals.Statement.{statement}
-use Rattle.canonical_differential.proofs.print_refusals.Tie as tie
+use Rattle.form_trials.proofs.counts.print_refusals.Statement.{statement}
+use Rattle.form_trials.proofs.counts.print_refusals.Tie as tie
 
 abbrev Inv-loop : tie.InvT-loop
 Inv-loop counts family i₀ t5 t6 i = i ≤ 10

@@ -1,10 +1,10 @@
--- `canonical_differential::write` stays within the buffer.
+-- `form_trials::write` stays within the buffer.
 -- Assumes nothing.
 use borrow.Author.Needs.{needs}
 use mathlib.Core.Path.{sym}
 use lib.Seq.{length-take-le}
-use Rattle.canonical_differential.proofs.write.Statement.{statement}
-use Rattle.canonical_differential.proofs.write.Tie as tie
+use Rattle.form_trials.proofs.write.Statement.{statement}
+use Rattle.form_trials.proofs.write.Tie as tie
 
 pub write-spec : {M : Type 1} → statement M
 write-spec =

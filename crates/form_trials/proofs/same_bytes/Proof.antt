@@ -1,9 +1,9 @@
--- `canonical_differential::same_bytes` ends, after one turn for each byte.
+-- `form_trials::same_bytes` ends, after one turn for each byte.
 -- Assumes nothing.
 use borrow.Author.Needs.{needs}
 use Prim.Native.Nat.{_-_, _≤_}
-use Rattle.canonical_differential.proofs.same_bytes.Statement.{statement}
-use Rattle.canonical_differential.proofs.same_bytes.Tie as tie
+use Rattle.form_trials.proofs.same_bytes.Statement.{statement}
+use Rattle.form_trials.proofs.same_bytes.Tie as tie
 
 abbrev Inv-loop : tie.InvT-loop
 Inv-loop a b n i₀ i = i ≤ n
