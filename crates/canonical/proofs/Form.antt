@@ -1,6 +1,6 @@
 -- The rules that remain, and the file that holds them: it reads back, and its spread rules are the rules that it holds. Assumes nothing.
 use Prim.Native.Nat.{ℕ, zero, suc, _*_, _<_, _≤_}
-use mathlib.Core.Path.{_≡_, refl, sym, ap, subst, _∙_}
+use mathlib.Core.Path.{_≡_, refl, sym, subst, _∙_}
 use mathlib.Core.Bool.{Bool, false}
 use mathlib.Core.List.{List, [], _∷_, map, List·Memᴰ·head, List·Memᴰ·tail}
 use native.Mathlib.Omega.{arith}
@@ -9,6 +9,7 @@ use Rattle.relation.specs.Sets.{member}
 use Rattle.model.specs.declared.Place.{Place}
 use Rattle.model.specs.declared.Move.{Move}
 use Rattle.model.specs.Lists.{_∈_}
+use Rattle.model.proofs.ListLaws.{nth-lt, nth-of-lt, nth-mem, mem-nth, nth-getD, nth-map}
 use Rattle.blocks.specs.Blocks.{content}
 use Rattle.refusal.specs.declared.Check.the-variants.{Passed}
 use Rattle.refusal.specs.Checks.{_andThen_}
@@ -112,14 +113,16 @@ sets-pass h n e = e
 
 -- ---- what the file of rules that are each at one place reads as
 
+-- a rule of the list, by its place in it
 mem-index : (rules : List Rule) (r : Rule) → r ∈ rules → (i : ℕ) × (i < length rules) × (getD (map RuleBytes.Known rules) i RuleBytes.Unknown ≡ RuleBytes.Known r)
-mem-index (x ∷ rules) r (List·Memᴰ·head e) = (0, omega arith, ap RuleBytes.Known (sym e))
-mem-index (x ∷ rules) r (List·Memᴰ·tail m) = let k = mem-index rules r m in (suc (k .0), omega (arith, k .1), k .2)
+mem-index rules r m = let k = mem-nth m in (k .0, nth-lt (k .1), nth-getD RuleBytes.Unknown (nth-map RuleBytes.Known (k .1)))
 
 index-mem : (rules : List Rule) (r : Rule) (i : ℕ) → i < length rules → getD (map RuleBytes.Known rules) i RuleBytes.Unknown ≡ RuleBytes.Known r → r ∈ rules
-index-mem [] r i l e = absurd (omega arith)
-index-mem (x ∷ rules) r zero l e = let same : r ≡ x = cc in List·Memᴰ·head same
-index-mem (x ∷ rules) r (suc i) l e = List·Memᴰ·tail (index-mem rules r i (omega arith) e)
+index-mem rules r i l e =
+    let k = nth-of-lt rules i l in
+    let known = nth-getD RuleBytes.Unknown (nth-map RuleBytes.Known (k .1)) in
+    let same : k .0 ≡ r = cc in
+    subst (λ (x : Rule). x ∈ rules) same (nth-mem (k .1))
 
 covers-only : (t : Scope) (τ : Place) → t ≡ Scope.Only τ → Covers t τ
 covers-only t τ e = subst (λ (x : Scope). Covers x τ) (sym e) refl
