@@ -150,33 +150,35 @@ unless-stopped s out h e many room =
     let both : formCheck h (remaining h (content s)) (length out) ≡ Passed = rw (many, room) in
     ap (λ (x : Filled). x .answer) (read-is s out h e ∙ ap (λ (c : Check). filledAfter c (canonicalFile h (remaining h (content s))) out) both)
 
--- ---- "Every letter gets the same answer under it."
+-- ---- what is written reads without refusal, and its spread rules are those of the input; so "Every letter gets the same answer under it."
 
 module _ (s out : List ℕ) (n : ℕ) (told : canonicalOf s out .answer ≡ Written.Bytes n) where
-  f : Formed s out n
-  f = formed s out n told
+  pub wrote : Formed s out n
+  wrote = formed s out n told
 
   -- the file that was written
-  abbrev file : List ℕ
+  abbrev pub file : List ℕ
   file = take n (canonicalOf s out .out)
 
-  abbrev header : Header
-  header = canonicalHeader (f .header) (length (remaining (f .header) (content s)))
+  abbrev pub header : Header
+  header = canonicalHeader (wrote .header) (length (remaining (wrote .header) (content s)))
 
-  file-reads : parsed file ≡ Parsed.Read header
-  file-reads = rw (f .front) (form-reads s (f .header) (f .read) (f .few) .read)
+  -- it reads without refusal ..
+  pub file-reads : parsed file ≡ Parsed.Read header
+  file-reads = rw (wrote .front) (form-reads s (wrote .header) (wrote .read) (wrote .few) .read)
 
-  same-spread : SameRules (spreadRules header (content file)) (spreadRules (f .header) (content s))
+  -- .. and its spread rules are those of the input
+  pub same-spread : SameRules (spreadRules header (content file)) (spreadRules (wrote .header) (content s))
   same-spread r =
-      let a = subst (λ (x : List ℕ). SameRules (spreadRules header (content x)) (remaining (f .header) (content s))) (sym (f .front)) (form-spread s (f .header) (f .read) (f .few)) r in
-      let b = ordered-same (spreadRules (f .header) (content s)) r in
+      let a = subst (λ (x : List ℕ). SameRules (spreadRules header (content x)) (remaining (wrote .header) (content s))) (sym (wrote .front)) (form-spread s (wrote .header) (wrote .read) (wrote .few)) r in
+      let b = ordered-same (spreadRules (wrote .header) (content s)) r in
       (λ m. b .0 (a .0 m), λ m. a .1 (b .1 m))
 
   -- every answer by the automaton is the same
   module _ {ℓ} {X : Type ℓ} where
     pub same-answers : (refused : Refusal → X) (read : Automaton → X) → byAutomaton file refused read ≡ byAutomaton s refused read
     same-answers refused read =
-        same-answer file s header (f .header) file-reads (f .read)
+        same-answer file s header (wrote .header) file-reads (wrote .read)
         (record { states = refl; symbols = refl; initial = refl; accepting = refl; branches = refl }) same-spread refused read
 
   -- a refused letter has its refusal
@@ -195,7 +197,7 @@ module _ (s out : List ℕ) (n : ℕ) (told : canonicalOf s out .answer ≡ Writ
 
   pub same-singleness : singleOf file ≡ singleOf s
   unfolding singleOf
-  same-singleness = rw (file-reads, f .read) (ap singleIf (same-single (spreadRules header (content file)) (spreadRules (f .header) (content s)) same-spread))
+  same-singleness = rw (file-reads, wrote .read) (ap singleIf (same-single (spreadRules header (content file)) (spreadRules (wrote .header) (content s)) same-spread))
 
 -- ---- "Two files that are not refused give equal output exactly when those counts, the three sets and the set of spread rules agree"
 
