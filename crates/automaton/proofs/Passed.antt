@@ -25,28 +25,48 @@ use Rattle.automaton.specs.declared.rules.PlaceByte.{PlaceByte}
 use Rattle.automaton.specs.declared.rules.MoveByte.{MoveByte}
 use Rattle.automaton.specs.declared.rules.RuleBytes.{RuleBytes}
 
-pub layout-passed : (h : Header) (p : List ℕ) → layoutCheck h p ≡ Passed → LaidOut h p
-unfolding layoutCheck countsCheck
-layout-passed h p e =
+-- line 4 passed each count
+pub record CountsPassed (h : Header) : Type 0 where
+  pub states : countCheck format (h .states) 1 24 1 ≡ Passed
+  pub symbols : countCheck format (h .symbols) 1 32 2 ≡ Passed
+  pub rules : countCheck format (h .rules) 0 512 4 ≡ Passed
+
+pub counts-passed : (h : Header) → countsCheck h ≡ Passed → CountsPassed h
+unfolding countsCheck
+counts-passed h e =
     let states = countCheck format (h .states) 1 24 1 in
     let symbols = countCheck format (h .symbols) 1 32 2 in
     let rules = countCheck format (h .rules) 0 512 4 in
-    let later = both-passed (kindCheck format p) ((states andThen symbols andThen rules) andThen sizeCheck format (payload h) p) e .1 in
-    let both = both-passed (states andThen symbols andThen rules) (sizeCheck format (payload h) p) later in
-    let first = both-passed states (symbols andThen rules) (both .0) in
+    let first = both-passed states (symbols andThen rules) e in
     let second = both-passed symbols rules (first .1) in
+    record { states = first .0; symbols = second .0; rules = second .1 }
+
+-- and so each is within its limit
+pub record Limits (h : Header) : Type 0 where
+  pub states : h .states ≤ 24
+  pub symbols : h .symbols ≤ 32
+  pub rules : h .rules ≤ 512
+
+pub counts-limit : (h : Header) → countsCheck h ≡ Passed → Limits h
+counts-limit h e =
+    let c = counts-passed h e in
     record {
-      states = count-passed format (h .states) 1 24 1 (first .0) .1;
-      symbols = count-passed format (h .symbols) 1 32 2 (second .0) .1;
-      few = count-passed format (h .rules) 0 512 4 (second .1) .1;
-      rules = size-passed format (payload h) p (both .1);
+      states = count-passed format (h .states) 1 24 1 (c .states) .1;
+      symbols = count-passed format (h .symbols) 1 32 2 (c .symbols) .1;
+      rules = count-passed format (h .rules) 0 512 4 (c .rules) .1;
     }
 
-layout-counts : (h : Header) (p : List ℕ) → layoutCheck h p ≡ Passed → countsCheck h ≡ Passed
+-- lines 4 and 5 passed
+layout-both : (h : Header) (p : List ℕ) → layoutCheck h p ≡ Passed → (countsCheck h ≡ Passed) × (sizeCheck format (payload h) p ≡ Passed)
 unfolding layoutCheck
-layout-counts h p e =
-    let later = both-passed (kindCheck format p) (countsCheck h andThen sizeCheck format (payload h) p) e .1 in
-    both-passed (countsCheck h) (sizeCheck format (payload h) p) later .0
+layout-both h p e =
+    both-passed (countsCheck h) (sizeCheck format (payload h) p) (both-passed (kindCheck format p) (countsCheck h andThen sizeCheck format (payload h) p) e .1)
+
+pub layout-passed : (h : Header) (p : List ℕ) → layoutCheck h p ≡ Passed → LaidOut h p
+layout-passed h p e =
+    let both = layout-both h p e in
+    let within = counts-limit h (both .0) in
+    record { states = within .states; symbols = within .symbols; few = within .rules; rules = size-passed format (payload h) p (both .1) }
 
 -- ---- a rule that is known has numbers below the counts
 
@@ -121,7 +141,7 @@ file-read s h e =
       size = file-passed format s (first .0);
       header = refl;
       laid-out = layout-passed g p (both .0);
-      counts = layout-counts g p (both .0);
+      counts = layout-both g p (both .0) .0;
       sets = last .0;
       rules = λ i l. rule-passed g p i (each-passed (ruleCheck g p) 0 (g .rules) (last .1) i (omega arith) (omega arith));
     })

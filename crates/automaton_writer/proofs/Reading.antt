@@ -14,19 +14,20 @@ use Rattle.blocks.specs.Blocks.{content}
 use Rattle.blocks.specs.FileOf.{fileOf, wordBytes}
 use Rattle.blocks.proofs.Written.{word-bytes, file-content-at}
 use Rattle.refusal.specs.Checks.{_andThen_, refuseIf}
-use Rattle.refusal.specs.Lines.{kindCheck, countCheck}
+use Rattle.refusal.specs.Lines.{kindCheck}
 use Rattle.refusal.specs.declared.Check.the-variants.{Passed}
 use Rattle.refusal.specs.declared.Fault.{Fault}
 use Rattle.refusal.proofs.Cases.{each-passes}
-use Rattle.refusal.proofs.Passed.{both-passed, if-passed, count-passed}
+use Rattle.refusal.proofs.Passed.{both-passed, if-passed}
 use Rattle.refusal.proofs.Written.{Payload, written-passes}
-use Rattle.automaton.specs.File.{format, headerOf, payload, countsCheck, beyond, setsCheck, rulesCheck, layoutCheck, bodyCheck, parsed}
+use Rattle.automaton.specs.File.{format, headerOf, payload, beyond, setsCheck, rulesCheck, layoutCheck, bodyCheck, parsed}
 use Rattle.automaton.specs.Payload.{placeByte, moveByte, recordsOf, payloadOf}
 use Rattle.automaton.specs.Rules.{sortPlace, sortMove, sorted, knownIf, ruleAt, ruleCheck}
 use Rattle.automaton.specs.declared.Header.{Header}
 use Rattle.automaton.specs.declared.Rule.{Rule}
 use Rattle.automaton.specs.declared.rules.RuleBytes.{RuleBytes}
 use Rattle.automaton.proofs.Bytes.{sort-place, sort-move}
+use Rattle.automaton.proofs.Passed.{Limits, counts-limit}
 use Rattle.automaton.proofs.Records.{records-length}
 use Rattle.automaton_writer.proofs.Bytes.{payload-length, record-byte}
 use Rattle.automaton_writer.specs.ReadsBack.{Fits, FitsEach, Passing, ReadsBack}
@@ -90,25 +91,6 @@ record SetsFit (h : Header) : Type 0 where
   accepting : h .accepting < 4294967296
   branches : h .branches < 4294967296
 
-record Limits (h : Header) : Type 0 where
-  states : h .states ≤ 24
-  symbols : h .symbols ≤ 32
-  rules : h .rules ≤ 512
-
-limits : (h : Header) → countsCheck h ≡ Passed → Limits h
-unfolding countsCheck
-limits h e =
-    let states = countCheck format (h .states) 1 24 1 in
-    let symbols = countCheck format (h .symbols) 1 32 2 in
-    let rules = countCheck format (h .rules) 0 512 4 in
-    let first = both-passed states (symbols andThen rules) e in
-    let second = both-passed symbols rules (first .1) in
-    record {
-      states = count-passed format (h .states) 1 24 1 (first .0) .1;
-      symbols = count-passed format (h .symbols) 1 32 2 (second .0) .1;
-      rules = count-passed format (h .rules) 0 512 4 (second .1) .1;
-    }
-
 sets-fit : (h : Header) → Limits h → setsCheck h ≡ Passed → SetsFit h
 unfolding setsCheck
 sets-fit h few e =
@@ -148,7 +130,7 @@ module _ (h : Header) (rs : List Rule) (ok : Passing h rs) where
   bytes = payloadOf h (recordsOf rs)
 
   few : Limits h
-  few = limits h (ok .counts)
+  few = counts-limit h (ok .counts)
 
   bytes-length : length bytes ≡ payload h
   unfolding bytes

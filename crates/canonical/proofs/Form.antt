@@ -12,9 +12,7 @@ use Rattle.model.specs.Lists.{_∈_}
 use Rattle.model.proofs.ListLaws.{nth-lt, nth-of-lt, nth-mem, mem-nth, nth-getD, nth-map}
 use Rattle.blocks.specs.Blocks.{content}
 use Rattle.refusal.specs.declared.Check.the-variants.{Passed}
-use Rattle.refusal.specs.Checks.{_andThen_}
-use Rattle.refusal.specs.Lines.{countCheck}
-use Rattle.refusal.proofs.Passed.{clash, both-passed, count-passes}
+use Rattle.refusal.proofs.Passed.{clash, count-passes}
 use Rattle.automaton.specs.File.{format, countsCheck, setsCheck, parsed}
 use Rattle.automaton.specs.Rules.{ruleAt, misplacedMove, misplaced}
 use Rattle.automaton.specs.declared.Header.{Header}
@@ -22,13 +20,13 @@ use Rattle.automaton.specs.declared.Rule.{Rule}
 use Rattle.automaton.specs.declared.Scope.{Scope}
 use Rattle.automaton.specs.declared.file.Parsed.{Parsed}
 use Rattle.automaton.specs.declared.rules.RuleBytes.{RuleBytes}
-use Rattle.automaton.proofs.Passed.{rule-in, file-read}
+use Rattle.automaton.proofs.Passed.{counts-passed, rule-in, file-read}
 use Rattle.automaton_writer.specs.ReadsBack.{Fits, FitsEach, ReadsBack}
 use Rattle.automaton_writer.proofs.Reading.{reads-back}
 use Rattle.transitions.specs.Transitions.{Covers}
 use Rattle.transitions.specs.Spread.{placesOf, atPlace, spread, spreadFirst, spreadRules, SameRules}
 use Rattle.transitions.proofs.Spreading.{rule-same, spread-has}
-use Rattle.rule_order.proofs.Ordering.{ordered-rising, ordered-same, ordered-is, ordered-few}
+use Rattle.rule_order.proofs.Ordering.{same-back, ordered-rising, ordered-same, ordered-is, ordered-few}
 use Rattle.canonical.specs.Canonical.{remaining, canonicalHeader, canonicalFile}
 
 -- ---- how many there are
@@ -100,12 +98,8 @@ fits-each h n (r ∷ rules) each =
 counts-pass : (h : Header) (n : ℕ) → countsCheck h ≡ Passed → n ≤ 512 → countsCheck (canonicalHeader h n) ≡ Passed
 unfolding countsCheck
 counts-pass h n e few =
-    let states = countCheck format (h .states) 1 24 1 in
-    let symbols = countCheck format (h .symbols) 1 32 2 in
-    let rules = countCheck format (h .rules) 0 512 4 in
-    let first = both-passed states (symbols andThen rules) e in
-    let second = both-passed symbols rules (first .1) in
-    rw (first .0, second .0, count-passes format n 0 512 4 (omega arith) few)
+    let c = counts-passed h e in
+    rw (c .states, c .symbols, count-passes format n 0 512 4 (omega arith) few)
 
 sets-pass : (h : Header) (n : ℕ) → setsCheck h ≡ Passed → setsCheck (canonicalHeader h n) ≡ Passed
 unfolding setsCheck
@@ -195,5 +189,4 @@ module _ (s : List ℕ) (h : Header) (e : parsed s ≡ Parsed.Read h) where
     -- and so those that remain of it
     pub form-again : remaining header (content (canonicalFile h rules)) ≡ rules
     form-again =
-        sym (ordered-is rules (spreadRules header (content (canonicalFile h rules))) (ordered-rising (spreadRules h (content s)))
-        (λ r. (form-spread r .1, form-spread r .0)))
+        sym (ordered-is rules (spreadRules header (content (canonicalFile h rules))) (ordered-rising (spreadRules h (content s))) (same-back form-spread))

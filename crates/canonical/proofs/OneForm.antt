@@ -7,7 +7,6 @@ use native.Mathlib.Omega.{arith}
 use borrow.Author.Tests.{lt-ltb, le-ltb, ltb-false}
 use lib.ListN.{length, take, drop}
 use lib.Seq.{take-at}
-use Rattle.model.specs.Lists.{_∈_}
 use Rattle.blocks.specs.Blocks.{content}
 use Rattle.blocks.specs.FileOf.{blocksNeeded}
 use Rattle.blocks.proofs.Written.{file-length}
@@ -39,7 +38,7 @@ use Rattle.emptiness.specs.declared.Quick.{Quick}
 use Rattle.block_writer.specs.Written.{roomCheck, Filled, filled, filledAfter}
 use Rattle.block_writer.specs.declared.Written.{Written}
 use Rattle.block_writer.proofs.Answers.{room-enough, room-passed, after-bytes, after-kept}
-use Rattle.rule_order.proofs.Ordering.{ordered-rising, ordered-same, rising-unique}
+use Rattle.rule_order.proofs.Ordering.{same-back, same-on, ordered-rising, ordered-same, ordered-is}
 use Rattle.canonical.specs.Canonical.{remaining, canonicalHeader, canonicalFile, manyCheck, formCheck, formCheckOf, writtenFor, canonicalOf}
 use Rattle.canonical.specs.Promise.{FormWritten, Promise}
 use Rattle.canonical.proofs.Form.{remaining-placed, form-reads, form-spread, form-again}
@@ -169,10 +168,9 @@ module _ (s out : List ℕ) (n : ℕ) (told : canonicalOf s out .answer ≡ Writ
 
   -- .. and its spread rules are those of the input
   pub same-spread : SameRules (spreadRules header (content file)) (spreadRules (wrote .header) (content s))
-  same-spread r =
-      let a = subst (λ (x : List ℕ). SameRules (spreadRules header (content x)) (remaining (wrote .header) (content s))) (sym (wrote .front)) (form-spread s (wrote .header) (wrote .read) (wrote .few)) r in
-      let b = ordered-same (spreadRules (wrote .header) (content s)) r in
-      (λ m. b .0 (a .0 m), λ m. a .1 (b .1 m))
+  same-spread =
+      same-on (subst (λ (x : List ℕ). SameRules (spreadRules header (content x)) (remaining (wrote .header) (content s))) (sym (wrote .front)) (form-spread s (wrote .header) (wrote .read) (wrote .few)))
+      (ordered-same (spreadRules (wrote .header) (content s)))
 
   -- every answer by the automaton is the same
   module _ {ℓ} {X : Type ℓ} where
@@ -235,20 +233,14 @@ module _ (s s′ : List ℕ) (h h′ : Header) where
       sym (form-again s h e few) ∙ ap (λ (x : List ℕ). remaining (canonicalHeader h (length rules)) (content x)) same
       ∙ ap (λ (x : Header). remaining x (content (canonicalFile h′ rules′))) headers ∙ form-again s′ h′ e′ few′ in (
         counts-same h h′ (length rules) (length rules′) headers,
-        λ r.
-            let a = ordered-same (spreadRules h (content s)) r in
-            let b = ordered-same (spreadRules h′ (content s′)) r in
-            (λ m. b .0 (subst (λ (l : List Rule). r ∈ l) held (a .1 m)), λ m. a .0 (subst (λ (l : List Rule). r ∈ l) (sym held) (b .1 m))),
+        same-on (same-back (ordered-same (spreadRules h (content s))))
+            (subst (λ (l : List Rule). SameRules l (spreadRules h′ (content s′))) (sym held) (ordered-same (spreadRules h′ (content s′)))),
       )
 
   same-files : SameCounts h h′ → SameRules (spreadRules h (content s)) (spreadRules h′ (content s′)) → canonicalFile h rules ≡ canonicalFile h′ rules′
   same-files counts same =
       let held : rules ≡ rules′ =
-      rising-unique rules rules′ (ordered-rising (spreadRules h (content s))) (ordered-rising (spreadRules h′ (content s′)))
-      (λ r.
-      let a = ordered-same (spreadRules h (content s)) r in
-      let b = ordered-same (spreadRules h′ (content s′)) r in
-      (λ m. b .1 (same r .0 (a .0 m)), λ m. a .1 (same r .1 (b .0 m)))) in
+      ordered-is rules (spreadRules h′ (content s′)) (ordered-rising (spreadRules h (content s))) (same-on (ordered-same (spreadRules h (content s))) same) in
       ap (λ (x : Header). automatonFile x rules) (header-same h h′ (length rules) (length rules′) counts (ap length held))
       ∙ ap (automatonFile (canonicalHeader h′ (length rules′))) held
 
