@@ -1,10 +1,8 @@
 -- `blocks::fourth_word` meets its contract.
 -- Assumes nothing.
-use Prim.Native.Nat.{ℕ}
-use mathlib.Core.Path.{_≡_, ap, _∙_}
+use mathlib.Core.Path.{_≡_}
 use native.Mathlib.Nat.{add-zero}
 use borrow.Author.Needs.{needs}
-use Rattle.blocks.specs.Blocks.{wordSum}
 use Rattle.blocks.proofs.Laws.{word-sum-more}
 use Rattle.blocks.proofs.fourth_word.Statement.{statement}
 use Rattle.blocks.proofs.fourth_word.Tie as tie
