@@ -1,6 +1,6 @@
 -- What one pass finds is what lines 10 and 11 say of the whole list (`scan-symbols`, `scan-shape`).
 -- Assumes nothing.
-use Prim.Native.Nat.{ℕ, zero, suc, _+_, _-_, _≤_, _<_}
+use Prim.Native.Nat.{ℕ, zero, suc, _+_, _-_, _*_, _≤_, _<_}
 use native.Mathlib.Numerals.{add-one}
 use native.Mathlib.Omega.{arith}
 use mathlib.Core.Path.{_≡_, refl, sym, ap, _∙_}
@@ -16,20 +16,21 @@ use Rattle.model.specs.declared.Signature.{Signature}
 use Rattle.refusal.specs.Checks.{refused, refuseIf, refuseAt}
 use Rattle.refusal.specs.declared.Fault.{Fault}
 use Rattle.nodes.specs.Nodes.{noSymbol, symbolsCheck, opened, partsFrom, shapeCheck}
-use Rattle.nodes.specs.Scan.{nothingRead, firstAfter, partsAfter, scannedOf, scanOf, symbolsBy, shapeBy}
+use Rattle.nodes.specs.Scan.{nothingRead, firstAfter, openedBy, partsAfter, scannedOf, scanOf, symbolsBy, shapeBy}
 use Rattle.nodes.specs.declared.Scan.{Scan}
 
 -- ---- the parts after a node
 
-pub parts-grow : (n : ℕ) → (n ≡ 0 → ⊥) → partsAfter n true ≡ n + 1
+-- the parts by the number that says whether the node is a branch
+pub parts-are : (n one : ℕ) (branch : Bool) → (n ≡ 0 → ⊥) → one ≡ openedBy branch → n - 1 + 2 * one ≡ partsAfter n branch
 unfolding partsAfter
-parts-grow zero h = absurd (h refl)
-parts-grow (suc n) h = refl
+parts-are zero one branch h e = absurd (h refl)
+parts-are (suc n) one true h e = omega arith
+parts-are (suc n) one false h e = omega arith
 
-pub parts-shrink : (n : ℕ) → (n ≡ 0 → ⊥) → partsAfter n false ≡ n - 1
-unfolding partsAfter
-parts-shrink zero h = absurd (h refl)
-parts-shrink (suc n) h = omega arith
+pub opened-most : (branch : Bool) → openedBy branch ≤ 1
+opened-most true = omega arith
+opened-most false = omega arith
 
 pub parts-bound : (n : ℕ) (branch : Bool) → partsAfter n branch ≤ n + 1
 unfolding partsAfter

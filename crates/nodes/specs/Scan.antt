@@ -26,6 +26,11 @@ unfoldable pub firstAfter : (first nodes : ℕ) → (here : Bool) → ℕ
 firstAfter first nodes true = first
 firstAfter first nodes false = pickPlace (eqb first nodes) (nodes + 1) first
 
+-- how many steps deeper the node after a branch is, and the node after a leaf that is a left part's last: as a number for the code
+abbrev pub openedBy : (branch : Bool) → ℕ
+openedBy true = 1
+openedBy false = 0
+
 -- a branch closes one part and opens two, a leaf closes one; a closed tree stays closed
 unfoldable pub partsAfter : (parts : ℕ) → (branch : Bool) → ℕ
 partsAfter zero branch = 0

@@ -15,7 +15,7 @@ ghost use mathlib.Core.Path.{_≡_};
 ghost use Prim.Native.Nat.{_+_, _<_, _≤_, _^_};
 ghost use lib.Dec.{leb};
 ghost use Rattle.nodes.specs.Nodes.{nodesCheck};
-ghost use Rattle.nodes.specs.Scan.{nothingRead, firstAfter, partsAfter, Fits, risenFrom, descendedFrom, pathAfter, scannedOf, scanOf, symbolsBy, shapeBy, heightBy};
+ghost use Rattle.nodes.specs.Scan.{nothingRead, firstAfter, partsAfter, Fits, openedBy, pathAfter, scannedOf, scanOf, symbolsBy, shapeBy, heightBy};
 
 // Whether a symbol is none of the signature's.
 fn is_unknown(signature: Signature, symbol: Symbol) -> bool
@@ -71,6 +71,13 @@ fn first_after(first: usize, nodes: usize, here: bool) -> usize
     if first == nodes { nodes + 1 } else { first }
 }
 
+// 1 for a branch, 0 for a leaf. Which of them the next node is cannot be foretold; what is computed from this number needs no jump.
+fn opened(branch: bool) -> u32
+    ensures { λ r. ⌜ r ≡ openedBy branch ⌝ }
+{
+    if branch { 1 } else { 0 }
+}
+
 // The parts that are open after a node: a branch closes one and opens two, a leaf closes one. A closed tree stays closed.
 fn parts_after(parts: usize, branch: bool) -> usize
     requires { ⌜ parts + 1 < 2 ^ 64 ⌝ }
@@ -79,46 +86,11 @@ fn parts_after(parts: usize, branch: bool) -> usize
     if parts == 0 {
         return 0;
     }
-    if branch { parts + 1 } else { parts - 1 }
+    parts - 1 + 2 * opened(branch) as usize
 }
 
-// To the next right part that waits.
-fn risen(path: Path) -> Path
-    requires { ⌜ Fits path ⌝ }
-    ensures { λ r. ⌜ r ≡ risenFrom (path .depth) (path .waiting) ⌝ }
-{
-    let waiting = path.waiting;
-    if waiting == 0 {
-        return Path {
-            depth: 66,
-            waiting: 0,
-        };
-    }
-    let up = u64::trailing_zeros(waiting);
-    Path {
-        depth: path.depth - up,
-        waiting: (waiting >> up) - 1,
-    }
-}
-
-// To the left part; the right one waits.
-fn descended(path: Path) -> Path
-    requires { ⌜ Fits path × (path .depth ≤ 64) ⌝ }
-    ensures { λ r. ⌜ r ≡ descendedFrom path ⌝ }
-{
-    if path.depth == 64 {
-        return Path {
-            depth: 65,
-            waiting: 0,
-        };
-    }
-    Path {
-        depth: path.depth + 1,
-        waiting: 2 * path.waiting + 1,
-    }
-}
-
-// Where the node after a branch or a leaf is. Too deep, or where no part is to come, it stays.
+// Where the node after a branch or a leaf is: of a branch to the left part, where the right one waits; of a leaf up to the next right part that
+// waits. Too deep, or where no part is to come, it stays.
 fn path_after(path: Path, branch: bool) -> Path
     requires { ⌜ Fits path ⌝ }
     ensures { λ r. ⌜ r ≡ pathAfter path branch ⌝ }
@@ -126,7 +98,27 @@ fn path_after(path: Path, branch: bool) -> Path
     if 64 < path.depth {
         return path;
     }
-    if branch { descended(path) } else { risen(path) }
+    let down = opened(branch);
+    let more = down as u64;
+    let near = path.waiting | more;
+    if near == 0 {
+        return Path {
+            depth: 66,
+            waiting: 0,
+        };
+    }
+    let up = u64::trailing_zeros(near);
+    let depth = path.depth - up + down;
+    if depth == 65 {
+        return Path {
+            depth: 65,
+            waiting: 0,
+        };
+    }
+    Path {
+        depth,
+        waiting: (path.waiting >> up << down) + more - (1 - more),
+    }
 }
 
 // What is known after one more node.

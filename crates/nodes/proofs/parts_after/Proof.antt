@@ -1,9 +1,9 @@
--- `nodes::parts_after` meets its contract: the tests pick the case of the definition.
+-- `nodes::parts_after` meets its contract.
 -- Assumes nothing.
 use borrow.Author.Needs.{needs}
+use native.Mathlib.Omega.{arith}
 use Rattle.nodes.specs.Scan.{partsAfter}
-use Rattle.nodes.proofs.Scanning.{parts-grow, parts-shrink}
-use mathlib.Core.Path.{sym}
+use Rattle.nodes.proofs.Scanning.{parts-are, opened-most}
 use Rattle.nodes.proofs.parts_after.Statement.{statement}
 use Rattle.nodes.proofs.parts_after.Tie as tie
 
@@ -11,11 +11,14 @@ returns : tie.Need-returns
 unfolding partsAfter
 returns c = rw (c .if1 .taken)
 
-returns-2 : tie.Need-returns-2
-returns-2 c = rw (c .if2 .taken) (sym (parts-grow _ (c .before .if1 .left)))
-
-returns-3 : tie.Need-returns-3
-returns-3 c = rw (c .if2 .left) (sym (parts-shrink _ (c .before .if1 .left)))
-
 pub parts-after-spec : {M : Type 1} → statement M
-parts-after-spec = tie.close (tie.spec returns (λ c. search needs) (λ c. search needs) returns-2 returns-3)
+parts-after-spec =
+    tie.close
+    (tie.spec
+    returns
+    (λ c. search needs)
+    (λ c κs. search needs)
+    (λ c. search needs)
+    (λ c. search needs)
+    (λ c. let one = opened-most (c .before .before .args .branch) in omega (arith, one, c .opened .ensures))
+    (λ c. parts-are _ _ (c .before .before .args .branch) (c .before .if1 .left) (c .opened .ensures)))
