@@ -14,6 +14,17 @@ fn check(number: usize, content: &[u8]) -> u32 {
     words.fold(number as u32 + 1, u32::wrapping_add)
 }
 
+/// Whether the check of a block is right.
+fn is_right(number: usize, block: &[u8]) -> bool {
+    let (content, sum) = block.split_at(CONTENT);
+    check(number, content) == word(sum)
+}
+
+/// The lowest block of a file whose check is wrong.
+pub fn first_wrong(file: &[u8]) -> Option<usize> {
+    file.chunks_exact(BLOCK).enumerate().position(|(number, block)| !is_right(number, block))
+}
+
 /// The file with this payload, in the fewest blocks.
 pub fn write(payload: &[u8]) -> Vec<u8> {
     let mut file = Vec::new();
@@ -26,18 +37,18 @@ pub fn write(payload: &[u8]) -> Vec<u8> {
     file
 }
 
-/// The joined contents of a file of at most `most` bytes. Refusals 1 and 2.
+/// The joined contents of a file of at most `most` bytes. Refusals 1 and 2. (Each block is copied as soon as its check is right, while it is
+/// near the processor.)
 pub fn join(file: &[u8], most: usize) -> Result<Vec<u8>, Refusal> {
     if file.is_empty() || !file.len().is_multiple_of(BLOCK) || file.len() > most {
         return refused(1, 0);
     }
     let mut joined = Vec::with_capacity(file.len());
     for (number, block) in file.chunks_exact(BLOCK).enumerate() {
-        let (content, sum) = block.split_at(CONTENT);
-        if check(number, content) != word(sum) {
+        if !is_right(number, block) {
             return refused(2, number);
         }
-        joined.extend_from_slice(content);
+        joined.extend_from_slice(&block[..CONTENT]);
     }
     Ok(joined)
 }

@@ -8,7 +8,7 @@ use crate::{
 
 const AUTOMATA: u64 = 4;
 /// 4,095 nodes.
-const BRANCHES: usize = 2047;
+pub const BRANCHES: usize = 2047;
 
 pub struct Family {
     pub name: &'static str,
@@ -30,6 +30,10 @@ pub struct Case {
 }
 
 impl Family {
+    pub fn named(name: &str) -> Option<&'static Family> {
+        FAMILIES.iter().find(|family| family.name == name)
+    }
+
     pub fn cases(&self) -> Vec<Case> {
         (1..=AUTOMATA).map(|seed| self.case(&mut Random::new(seed))).collect()
     }

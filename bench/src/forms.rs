@@ -5,7 +5,7 @@ use crate::{
     blocks::BLOCK,
     canonical,
     engine::{self, Engine},
-    families::FAMILIES,
+    families::Family,
     random::Random,
     Judge, Refusal, Verdict,
 };
@@ -53,7 +53,7 @@ fn cases(automaton: &Automaton) -> [(&'static str, Automaton); 6] {
 }
 
 pub fn run() -> Result<(), String> {
-    let family = FAMILIES.iter().find(|family| family.name == APART).ok_or("the family is not there")?;
+    let family = Family::named(APART).ok_or("the family is not there")?;
     let case = family.cases().remove(0);
     let automaton = Automaton::read(&case.automaton).map_err(|_| "an automaton was refused")?;
     println!("\nthe one form, microseconds a file, best of {ROUNDS} rounds; judging of the tree that takes least:");

@@ -1,6 +1,7 @@
 //! Judging, the survey, the quick check, single, the one form and the percent in Rust, written from documents 01 and 02 alone; and the measuring
-//! of judging, the survey, single and the one form: the engine beside these. One call takes the bytes of an automaton's file and of trees' files
-//! end to end, and gives the tally; or the bytes of an automaton's file, and gives the survey's verdict and plan, or the file in its one form.
+//! of judging, the survey, single, the one form and reading: the engine beside these. One call takes the bytes of an automaton's file and of
+//! trees' files end to end, and gives the tally; or the bytes of an automaton's file, and gives the survey's verdict and plan, or the file in
+//! its one form; or the bytes of a tree's file, and gives the block whose check is wrong, or the nodes.
 pub mod agreement;
 pub mod automaton;
 pub mod batch;
@@ -14,9 +15,13 @@ pub mod families;
 mod forms;
 mod judges;
 mod measure;
+#[cfg(feature = "engine")]
+mod parts;
 mod plain;
 pub mod quick;
 pub mod random;
+#[cfg(feature = "engine")]
+mod reads;
 mod report;
 pub mod shapes;
 #[cfg(feature = "engine")]
@@ -75,5 +80,7 @@ pub fn run() -> Result<(), String> {
     singles::run()?;
     #[cfg(feature = "engine")]
     forms::run()?;
+    #[cfg(feature = "engine")]
+    reads::run()?;
     Ok(())
 }

@@ -3,14 +3,14 @@ use crate::{automaton::Automaton, blocks, refused, Refusal};
 
 pub const MOST_HEIGHT: usize = 64;
 const MOST_BYTES: usize = 4608;
-const MOST_NODES: usize = 4096;
+pub const MOST_NODES: usize = 4096;
 const KIND: u8 = 84;
 
 /// What reading a tree needs of its automaton.
 #[derive(Clone, Copy)]
 pub struct Alphabet {
-    symbols: usize,
-    branches: u32,
+    pub symbols: usize,
+    pub branches: u32,
 }
 
 impl Alphabet {
