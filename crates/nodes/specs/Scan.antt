@@ -26,7 +26,7 @@ unfoldable pub firstAfter : (first nodes : ℕ) → (here : Bool) → ℕ
 firstAfter first nodes true = first
 firstAfter first nodes false = pickPlace (eqb first nodes) (nodes + 1) first
 
--- how many steps deeper the node after a branch is, and the node after a leaf that is a left part's last: as a number for the code
+-- 1 for a branch, 0 for a leaf: whether a part is opened to the left, one step deeper
 abbrev pub openedBy : (branch : Bool) → ℕ
 openedBy true = 1
 openedBy false = 0
