@@ -1,4 +1,4 @@
--- Two answers as numbers.
+-- Two answers as numbers, for what is timed alone (document 02, W5: "Time 1,000 letters of nine blocks before and after.").
 -- Interface: `placeOr`, `countTold`.
 use Prim.Native.Nat.{ℕ}
 use Rattle.blocks.specs.declared.Found.{Found}
