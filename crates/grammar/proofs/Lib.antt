@@ -1,0 +1,6 @@
+pub mod PushdownLaws
+pub mod Once
+pub mod Decided
+pub mod Going
+pub mod Filling
+pub mod Whole

@@ -1,0 +1,95 @@
+-- From places to whole texts.
+-- Assumes nothing.
+use Prim.Native.Nat.{ℕ, zero, suc, _+_, _<_, _≤_}
+use native.Mathlib.Omega.{arith}
+use native.Mathlib.Numerals.{add-one}
+use mathlib.Core.Path.{_≡_, refl, sym, ap, _∙_}
+use mathlib.Core.Bool.{Bool, true, false}
+use mathlib.Core.List.{List, [], _∷_, _++_}
+use lib.Dec.{eqb}
+use lib.ListN.{length, getD, take, drop, take-append-drop, length-append}
+use lib.Seq.{take-suc, take-length, getD-append-add}
+use lib.Arith.{lt-of-le-ne}
+use borrow.Author.Tests.{eqb-true, eqb-false}
+use Rattle.tags.specs.Classes.{classOf}
+use Rattle.grammar.specs.Grammar.{Elements, empty, element, Spaces, none, more, openTag, closeTag, Writes, blank, tagged, Text, OneOrMore, Begins, WrongAt}
+use Rattle.grammar.specs.Pushdown.{Configuration, between, tag, dead, step, steps, Goes, here, on, Alive}
+use Rattle.grammar.proofs.PushdownLaws.{steps-append, text-steps, alive-begins, between-writes, dead-begins, step-less}
+use Rattle.grammar.proofs.Decided.{next-steps, wrong-there, less-in}
+use Rattle.grammar.specs.Reading.{Stuck, Skipped, CloseAt, Passed, RunPassed, TextRead}
+use Rattle.grammar.proofs.Going.{go1, trans, stuck-after, root-dead}
+
+-- where the machine has got to is what it makes of the bytes before
+pub goes-steps :
+    {s : List ℕ} {a b : ℕ} {q r : Configuration} → Goes s a q b r → steps (between []) (take a s) ≡ q → steps (between []) (take b s) ≡ r
+goes-steps here e = e
+goes-steps {s} {a = a} {q = q} (on h g) e = goes-steps g (next-steps s a q h e)
+
+from-start : {s : List ℕ} {b : ℕ} {r : Configuration} → Goes s 0 (between []) b r → steps (between []) (take b s) ≡ r
+unfolding steps
+from-start g = goes-steps g refl
+
+-- the machine is stuck: the text is wrong there
+pub stuck-wrong : {s : List ℕ} {p : ℕ} → Stuck s 0 (between []) p → WrongAt s p
+stuck-wrong {s} {p} h = wrong-there s p (h .state) (h .to) (from-start (h .goes)) (h .alive) (h .stop) (h .early)
+
+-- ---- texts of spaces only
+
+spaces-each : {s : List ℕ} → Spaces s → (i : ℕ) → i < length s → classOf (getD s i 0) ≡ 0
+spaces-each none i h = absurd (omega arith)
+spaces-each (more b e k) zero h = e
+spaces-each (more b e k) (suc i) h = spaces-each k i (omega arith)
+
+pub spaces-wrong : {s : List ℕ} {p : ℕ} → p ≡ length s → Skipped s 0 p → WrongAt s p
+unfolding classOf
+spaces-wrong {s} {p} e h =
+    let g = from-start (h .goes []) in
+    record {
+      within = h .to;
+      before = alive-begins (take p s) (rw g tt);
+      there = λ l b. omega arith;
+      no-text =
+          λ r t.
+          let i = less-in (t .writes) (t .some) in
+          let k = h .blank (i .0) (omega arith) (omega arith) in
+          clash (sym k ∙ ap classOf (i .2));
+    }
+  where
+    clash : 0 ≡ classOf 60 → ⊥
+    clash z = omega arith
+
+-- ---- the whole text
+
+-- a run of spaces, or with an element
+some : (s : List ℕ) (i : ℕ) (r : Elements) → i < length s → (classOf (getD s i 0) ≡ 0 → ⊥) → Writes s r → OneOrMore r
+some s i empty h k (blank b) = k (spaces-each b i h)
+some s i (element n x y) h k w = tt
+
+pub text-right :
+    {s : List ℕ} {first end : ℕ} → Skipped s 0 first → (first ≡ length s → ⊥) → RunPassed s first end → end ≡ length s → (r : Elements) × Text s r
+text-right {s} {first} {end} h k m e =
+    let l : first < length s = lt-of-le-ne (h .to) k in
+    let g = from-start (trans (h .goes []) (m .passed .goes [])) in
+    let w = between-writes s (sym (ap (steps (between [])) (ap (λ (n : ℕ). take n s) e ∙ take-length s)) ∙ g) in
+    (w .0, record { writes = w .1; some = some s first (w .0) l (h .ends l) (w .1) })
+
+-- a closing tag with empty open
+pub text-closed :
+    {s : List ℕ} {first end : ℕ} → Skipped s 0 first → RunPassed s first end → (end ≡ length s → ⊥) → WrongAt s (end + 1)
+unfolding classOf
+text-closed {s} {first} {end} h m k =
+    let l : end < length s = lt-of-le-ne (m .passed .to) k in
+    let c = m .ends l in
+    stuck-wrong
+    (record {
+      from = omega arith;
+      to = omega (arith, c .room);
+      state = tag [];
+      goes = trans (h .goes []) (trans (m .passed .goes []) (go1 s end (between []) l (rw (c .less) (step-less []))));
+      alive = tt;
+      stop = λ j. rw (c .slash) (root-dead 47 (λ z. omega arith));
+      early = λ e f. let z : _≡_ {A = ℕ} 0 1 = cc in omega arith;
+    })
+
+pub text-stuck : {s : List ℕ} {first p : ℕ} → Skipped s 0 first → ((stack : List ℕ) → Stuck s first (between stack) p) → WrongAt s p
+text-stuck h k = stuck-wrong (stuck-after (h .from) (h .goes []) (k []))

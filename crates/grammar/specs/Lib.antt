@@ -1,0 +1,6 @@
+-- Definitions: the grammar, the tree, and where a text goes wrong; the pushdown automaton by which that is computed; what the
+-- functions that read answer.
+pub mod Grammar
+pub mod Pushdown
+pub mod Wrong
+pub mod Reading

@@ -1,0 +1,71 @@
+-- A text read byte by byte, with the numbers of the open elements, innermost first. The code follows it; what it has to do with the
+-- grammar is in proofs/PushdownLaws.
+use Prim.Native.Nat.{ℕ, zero, suc, _+_, _-_, _*_, _<_, _≤_}
+use mathlib.Core.Path.{_≡_}
+use mathlib.Core.Bool.{Bool, true, false}
+use mathlib.Core.List.{List, [], _∷_, _++_}
+use lib.Dec.{eqb}
+use lib.ListN.{length, getD}
+use Rattle.tags.specs.Classes.{classOf}
+use Rattle.grammar.specs.Grammar.{written}
+
+pub data Configuration : Type 0 where
+  -- outside tags
+  between : (stack : List ℕ) → Configuration
+  -- after `<`
+  tag : (stack : List ℕ) → Configuration
+  -- after `<` and one digit
+  one : (d : ℕ) (stack : List ℕ) → Configuration
+  -- after `<` and two digits
+  two : (n : ℕ) (stack : List ℕ) → Configuration
+  -- in a closing tag: the bytes that are to come, and what is open after it
+  closing : (rest stack : List ℕ) → Configuration
+  -- no continuation is right
+  dead : Configuration
+
+abbrev pub stateIf : Bool → Configuration → Configuration → Configuration
+stateIf true a b = a
+stateIf false a b = b
+
+-- by class: space, digit, less, slash, greater, other
+abbrev pub byClass : ℕ → Configuration → Configuration → Configuration → Configuration → Configuration → Configuration
+byClass zero s d l f g = s
+byClass (suc zero) s d l f g = d
+byClass (suc (suc zero)) s d l f g = l
+byClass (suc (suc (suc zero))) s d l f g = f
+byClass (suc (suc (suc (suc zero)))) s d l f g = g
+byClass (suc (suc (suc (suc (suc n))))) s d l f g = dead
+
+abbrev pub closed : List ℕ → Configuration
+closed [] = dead
+closed (n ∷ stack) = closing (written n ++ (62 ∷ [])) stack
+
+abbrev pub closingOn : List ℕ → List ℕ → Configuration
+closingOn [] stack = between stack
+closingOn (c ∷ rest) stack = closing (c ∷ rest) stack
+
+unfoldable pub step : Configuration → ℕ → Configuration
+step (between stack) b = byClass (classOf b) (between stack) dead (tag stack) dead dead
+step (tag stack) b = byClass (classOf b) dead (one (b - 48) stack) dead (closed stack) dead
+step (one d stack) b = byClass (classOf b) dead (stateIf (eqb d 0) dead (two (10 * d + (b - 48)) stack)) dead dead (between (d ∷ stack))
+step (two n stack) b = byClass (classOf b) dead dead dead dead (between (n ∷ stack))
+step (closing [] stack) b = dead
+step (closing (c ∷ rest) stack) b = stateIf (eqb b c) (closingOn rest stack) dead
+step dead b = dead
+
+unfoldable pub steps : Configuration → List ℕ → Configuration
+steps q [] = q
+steps q (b ∷ s) = steps (step q b) s
+
+-- from q at a place of a list to q′ at a place further on
+pub data Goes (s : List ℕ) : ℕ → Configuration → ℕ → Configuration → Type 0 where
+  here : {at : ℕ} {q : Configuration} → Goes s at q at q
+  on : {at to : ℕ} {q r : Configuration} → at < length s → Goes s (at + 1) (step q (getD s at 0)) to r → Goes s at q to r
+
+abbrev pub Alive : Configuration → Type 0
+Alive (between stack) = Unit
+Alive (tag stack) = Unit
+Alive (one d stack) = Unit
+Alive (two n stack) = Unit
+Alive (closing rest stack) = Unit
+Alive dead = ⊥

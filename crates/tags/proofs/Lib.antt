@@ -1,0 +1,4 @@
+pub mod Table
+pub mod Classed
+pub mod ClassLaws
+pub mod Listed
