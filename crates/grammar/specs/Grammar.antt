@@ -67,6 +67,11 @@ unfoldable pub treeOf : Elements → Tree
 treeOf empty = leaf 0
 treeOf (element n inside after) = node n (treeOf inside) (treeOf after)
 
+-- how many elements a run has, those inside its elements counted
+unfoldable pub elementsIn : Elements → ℕ
+elementsIn empty = 0
+elementsIn (element n inside after) = suc (elementsIn inside + elementsIn after)
+
 abbrev pub unlessSpace : ℕ → ℕ → List ℕ → List ℕ
 unlessSpace zero b s = s
 unlessSpace (suc c) b s = b ∷ s

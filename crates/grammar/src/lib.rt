@@ -155,7 +155,13 @@ fn shut(closing: Closing, count: usize) -> Reading
 
 // An element, through its run; its `<` stands at `at`. Its nodes go to the list behind the first `count`: its own, those of the run inside, and
 // the leaf by which that run ends.
-fn element(text: &[u8], at: usize, classes: &[u8; 256], nodes: &mut [u8; 10924], count: usize) -> Reading
+fn element(
+    text: &[u8],
+    at: usize,
+    classes: &[u8; 256],
+    nodes: &mut [u8; 10924],
+    count: usize,
+) -> Reading
     requires { ⌜ Opens (now text) at ⌝ }
     requires { ⌜ IsTable (now classes) ⌝ }
     requires { ⌜ Filled (now text) at count (now nodes) ⌝ }
@@ -177,7 +183,13 @@ fn element(text: &[u8], at: usize, classes: &[u8; 256], nodes: &mut [u8; 10924],
 }
 
 // A run, through its elements: up to the end or to a closing tag.
-fn run(text: &[u8], at: usize, classes: &[u8; 256], nodes: &mut [u8; 10924], count: usize) -> Reading
+fn run(
+    text: &[u8],
+    at: usize,
+    classes: &[u8; 256],
+    nodes: &mut [u8; 10924],
+    count: usize,
+) -> Reading
     requires { ⌜ at ≤ length (now text) ⌝ }
     requires { ⌜ IsTable (now classes) ⌝ }
     requires { ⌜ Filled (now text) at count (now nodes) ⌝ }

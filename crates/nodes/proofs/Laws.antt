@@ -118,7 +118,7 @@ low (suc d) i n (node σ l r) e =
     let hr = low d (i + 1 + size l) n r (both .1) in
     (omega arith, omega arith)
 
-low-next : (d i : ℕ) (t : Tree) → height t < d → depthOf d i t ≡ Next (i + size t)
+pub low-next : (d i : ℕ) (t : Tree) → height t < d → depthOf d i t ≡ Next (i + size t)
 unfolding depthOf
 low-next zero i t h = absurd (omega arith)
 low-next (suc d) i (leaf σ) h = refl

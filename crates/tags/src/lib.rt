@@ -359,4 +359,3 @@ pub fn first_bad_tag(branches: u32, text: &[u8]) -> Found
     }
     Found::Nothing
 }
-

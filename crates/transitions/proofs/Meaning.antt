@@ -22,17 +22,17 @@ use Rattle.blocks.specs.Blocks.{content}
 use Rattle.refusal.specs.Checks.{refuseIf, _andThen_}
 use Rattle.refusal.specs.declared.Check.the-variants.{Passed}
 use Rattle.refusal.specs.declared.Fault.{Fault}
-use Rattle.refusal.proofs.Passed.{clash, and-is-true, both-passed, if-passed}
+use Rattle.refusal.proofs.Passed.{count-passed, clash, and-is-true, both-passed, if-passed}
 use Rattle.automaton.specs.Payload.{moveByte}
 use Rattle.automaton.specs.Rules.{ruleAt, mayBeRoot, misplacedMove, misplaced}
-use Rattle.automaton.specs.File.{beyond, setsCheck, parsed}
+use Rattle.automaton.specs.File.{format, beyond, setsCheck, parsed}
 use Rattle.automaton.specs.declared.Header.{Header}
 use Rattle.automaton.specs.declared.Rule.{Rule}
 use Rattle.automaton.specs.declared.Scope.{Scope}
 use Rattle.automaton.specs.declared.file.Parsed.{Parsed}
 use Rattle.automaton.specs.declared.rules.RuleBytes.{RuleBytes}
 use Rattle.automaton.proofs.Bytes.{same-scope, same-move}
-use Rattle.automaton.proofs.Passed.{rule-in, file-read}
+use Rattle.automaton.proofs.Passed.{counts-passed, rule-in, file-read}
 use Rattle.transitions.specs.Transitions.{Covers, Applies, Allowed, placeNumber, covers, fits, withIf, addedBy, nextStates, automatonOf}
 
 pub same-place : {π τ : Place} → placeNumber π ≡ placeNumber τ → π ≡ τ
@@ -128,6 +128,7 @@ not-beyond count set q e k = bit-below set count q (below-of-div set count (eqb-
 record SetsFit (h : Header) : Type 0 where
   initial : beyond (h .states) (h .initial) ≡ false
   accepting : beyond (h .states) (h .accepting) ≡ false
+  branches : beyond (h .symbols) (h .branches) ≡ false
 
 sets-fit : (h : Header) → setsCheck h ≡ Passed → SetsFit h
 unfolding setsCheck
@@ -137,7 +138,7 @@ sets-fit h e =
     let c = refuseIf (beyond (h .symbols) (h .branches)) Fault.Set 0 16 in
     let x = both-passed a (b andThen c) e in
     let y = both-passed b c (x .1) in
-    record { initial = if-passed _ Fault.Set 0 8 (x .0); accepting = if-passed _ Fault.Set 0 12 (y .0) }
+    record { initial = if-passed _ Fault.Set 0 8 (x .0); accepting = if-passed _ Fault.Set 0 12 (y .0); branches = if-passed _ Fault.Set 0 16 (y .1) }
 
 module _ (s : List ℕ) (h : Header) (e : parsed s ≡ Parsed.Read h) where
   pub file-proper : Proper (automatonOf h (content s))
@@ -153,6 +154,13 @@ module _ (s : List ℕ) (h : Header) (e : parsed s ≡ Parsed.Read h) where
         initials = λ q k. not-beyond (h .states) (h .initial) q (sets .initial) k;
         finals = λ q k. not-beyond (h .states) (h .accepting) q (sets .accepting) k;
       }
+
+  -- its symbols are some, and its branch symbols are among them
+  pub file-symbols : (0 < h .symbols) × ((σ : ℕ) → member (h .branches) σ ≡ true → σ < h .symbols)
+  file-symbols =
+      let read = file-read s h e in
+      let some = count-passed format (h .symbols) 1 32 2 (counts-passed h (read .counts) .symbols) .0 in
+      (some, λ σ k. not-beyond (h .symbols) (h .branches) σ (sets-fit h (read .sets) .branches) (member-has (h .branches) σ .0 k))
 
   -- the rule behind a transition is well placed
   placed : {σ p : ℕ} {τ : Place} {μ : Move} {q : ℕ} (a : Allowed h (content s) (h .rules) σ p τ μ q) → misplaced (h .branches) (a .rule) ≡ false

@@ -1,6 +1,6 @@
 -- Reading the file of a node list gives the nodes; reading the file of a tree gives the tree.
 -- Assumes nothing.
-use Prim.Native.Nat.{ℕ, zero, suc, _+_, _/_, _%_, _^_, _<_, _≤_}
+use Prim.Native.Nat.{ℕ, zero, suc, _+_, _*_, _/_, _%_, _^_, _<_, _≤_}
 use native.Mathlib.Omega.{arith}
 use native.Mathlib.Nat.{div-eq-of-lt, lt-of-lt-of-le}
 use mathlib.Core.Path.{_≡_, refl, ap, _∙_}
@@ -10,8 +10,8 @@ use lib.ListN.{length, getD}
 use lib.Seq.{take-at}
 use borrow.Author.Tests.{le-ltb}
 use Rattle.blocks.specs.Blocks.{content}
-use Rattle.blocks.specs.FileOf.{fileOf}
-use Rattle.blocks.proofs.Written.{file-content, file-content-at}
+use Rattle.blocks.specs.FileOf.{blocksNeeded, fileOf}
+use Rattle.blocks.proofs.Written.{file-length, file-content, file-content-at}
 use Rattle.model.specs.Trees.{Tree, leaf, node, height, size}
 use Rattle.model.specs.Counting.{Over}
 use Rattle.model.specs.declared.Signature.{Signature}
@@ -98,6 +98,13 @@ module _ (nodes : List ℕ) (least : 1 ≤ length nodes) (most : length nodes �
 size-some : (t : Tree) → 1 ≤ size t
 size-some (leaf σ) = omega arith
 size-some (node σ l r) = omega arith
+
+-- the length of the file, by the size of its tree
+pub tree-long : (t : Tree) → length (treeFile t) ≡ 512 * blocksNeeded (4 + size t)
+unfolding treeFile
+tree-long t =
+    let n : length (payloadOf (preorder t)) ≡ 4 + size t = payload-length (preorder t) ∙ ap (λ (k : ℕ). 4 + k) (size-preorder t) in
+    file-length (payloadOf (preorder t)) ∙ ap (λ (k : ℕ). 512 * blocksNeeded k) n
 
 -- every tree over the signature with at most 4,096 nodes and height at most 64 reads back
 pub reads-back : (sg : Signature) (t : Tree) → Over (alphabet sg) t → size t ≤ 4096 → height t ≤ 64 → ReadsBack sg t

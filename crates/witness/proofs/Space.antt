@@ -2,22 +2,18 @@
 -- Assumes nothing.
 use Prim.Native.Nat.{ℕ, _+_, _*_, _<_, _≤_, min}
 use native.Mathlib.Omega.{arith}
-use mathlib.Core.Path.{_≡_, ap, _∙_}
+use mathlib.Core.Path.{_≡_}
 use mathlib.Core.List.{List}
 use borrow.Author.Tests.{lt-ltb, le-ltb, ltb-false}
 use lib.ListN.{length}
 use Rattle.blocks.specs.FileOf.{blocksNeeded}
-use Rattle.blocks.proofs.Written.{file-length}
 use Rattle.model.specs.Trees.{size}
 use Rattle.refusal.specs.Checks.{refused}
 use Rattle.refusal.specs.declared.Check.{Check}
 use Rattle.refusal.specs.declared.Check.the-variants.{Passed}
 use Rattle.refusal.specs.declared.Fault.{Fault}
 use Rattle.refusal.proofs.Passed.{both-passed, if-passed}
-use Rattle.tree.specs.Payload.{payloadOf, treeFile}
-use Rattle.nodes.specs.Preorder.{preorder}
-use Rattle.nodes.proofs.Standing.{size-preorder}
-use Rattle.tree_writer.proofs.Reading.{payload-length}
+use Rattle.tree_writer.proofs.Reading.{tree-long}
 use Rattle.block_writer.specs.Written.{roomCheck}
 use Rattle.block_writer.proofs.Answers.{room-passed}
 use Rattle.witness.specs.Plan.{planTree, largeCheck}
@@ -36,10 +32,7 @@ counted p n e h = omega arith
 
 -- the length of the file, by the size of its tree
 pub file-long : (p : List ℕ) → length (planFile p) ≡ 512 * blocksNeeded (4 + size (planTree p))
-unfolding treeFile
-file-long p =
-    let n : length (payloadOf (preorder (planTree p))) ≡ 4 + size (planTree p) = payload-length (preorder (planTree p)) ∙ ap (λ (k : ℕ). 4 + k) (size-preorder (planTree p)) in
-    file-length (payloadOf (preorder (planTree p))) ∙ ap (λ (k : ℕ). 512 * blocksNeeded k) n
+file-long p = tree-long (planTree p)
 
 pub room-is : (p : List ℕ) (room n : ℕ) {x : Check} → n ≡ size (planTree p) → x ≡ roomCheck (512 * blocksNeeded (4 + n)) room
     → x ≡ roomCheck (length (planFile p)) room
