@@ -9,7 +9,7 @@
  * what it only reads may overlap. Nothing is kept after the call.
  *
  * What is written. `told` is always written, all three numbers: what the answer tells, or, of a refusal, its number (1 to 14 of document
- * 01's table, 15 to 17 of document 02), the file (0 automaton, 1 tree, 2 neither), and the place that the table names; what an answer does
+ * 01's table, 15 to 19 of document 02), the file (0 automaton, 1 tree, 2 neither), and the place that the table names; what an answer does
  * not tell is 0. `plan`, `out`, `tally` and `text` are changed only as said below, and no other memory is.
  *
  * Threads. Calls share nothing: there is no state between them, no allocation, no lock, no file and no signal. Any number of threads may
@@ -29,6 +29,7 @@
 #define ENGINE_QUICK_STACK (52 * 1024)
 #define ENGINE_SINGLE_STACK (44 * 1024)
 #define ENGINE_CANONICAL_STACK (56 * 1024)
+#define ENGINE_MARKUP_STACK (1024 * 1024)
 #define ENGINE_COUNT_STACK (4 * 1024)
 #define ENGINE_PERCENT_STACK (4 * 1024)
 #define ENGINE_TALLY_STACK (80 * 1024)
@@ -72,6 +73,17 @@ uint32_t engine_single(const uint8_t *file, size_t length, size_t told[3]);
  * 0 written (length), 1 refused (number, file, place): after the automaton's refusals 17, more than 512 rules remain (0), and 13, the output
  * is too short (the length of the form). */
 uint32_t engine_canonical(const uint8_t *file, size_t length, uint8_t *out, size_t out_length, size_t told[3]);
+
+/* Writes the tree of an element text, for an automaton, as a tree's file at the front of the output. A text is one or more elements; an element
+ * is <n>, elements or none, and </n>, with n from 0 to 99; spaces, tabs and line ends may stand around tags. An element is a branch: its left
+ * part is what stands inside it, its right part what follows it; where nothing stands there is a leaf of symbol 0. Later bytes stay; a call
+ * that is refused changes none. It takes the most stack of all calls, where a text opens more than ten thousand elements and closes none.
+ * 0 written (length), 1 refused (number, file, place): after the automaton's refusals 18, a text of over 32,768 bytes (32,768) or none (the
+ * first byte at which no continuation could be right, or the length), 19, symbol 0 is no leaf (0) or a tag's is no branch (its <), then, as
+ * of the tree's file, 4, over 4,096 nodes (2), and 12, a height over 64 (the first node that is too far below the root), and 13, the output
+ * is too short (the length of the file). */
+uint32_t engine_markup(const uint8_t *file, size_t length, const uint8_t *text, size_t text_length, uint8_t *out, size_t out_length,
+                       size_t told[3]);
 
 /* Counts one outcome more on a tally of three numbers: accepted, other, refused. The outcome is what engine_judge answered: 0 accepted,
  * 1 other, any other number refused. A tally whose numbers add to 1,000,000 or more stays as it was.

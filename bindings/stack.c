@@ -6,7 +6,7 @@
 #include <string.h>
 #include <ucontext.h>
 
-enum { CONTENT = 508, BLOCK = 512, STACK = 1 << 20, FILLED = 0xA5, HEIGHT = 64, WALKER = 6 * BLOCK, LETTER = 9 * BLOCK };
+enum { CONTENT = 508, BLOCK = 512, STACK = 1 << 21, FILLED = 0xA5, HEIGHT = 64, WALKER = 6 * BLOCK, LETTER = 9 * BLOCK, TEXT = 32768 };
 
 /* ---- files */
 
@@ -184,6 +184,29 @@ static void call_canonical(void)
     answer = engine_canonical(input.walker, input.walker_length, out, sizeof out, told);
 }
 
+/* So many elements of symbol 1 inside one another, which are closed or not; the length of the text. */
+static size_t nest(uint8_t *text, size_t depth, int closed)
+{
+    for (size_t i = 0; i < depth; i++)
+        memcpy(text + 3 * i, "<1>", 3);
+    for (size_t i = 0; closed && i < depth; i++)
+        memcpy(text + 3 * depth + 4 * i, "</1>", 4);
+    return depth * (closed ? 7 : 3);
+}
+
+/* The deepest text, which ends early; the deepest that is whole, whose symbol 0 is no leaf, or which is too large; and, for the walker with
+ * symbol 0 as the only leaf, the deepest that is written. */
+static void call_markup(void)
+{
+    static uint8_t text[TEXT], out[LETTER];
+    static const struct {
+        size_t depth;
+        int closed;
+    } texts[] = {{TEXT / 3, 0}, {TEXT / 7, 1}, {HEIGHT, 1}};
+    for (int i = 0; i < 3; i++)
+        answer = engine_markup(input.walker, input.walker_length, text, nest(text, texts[i].depth, texts[i].closed), out, sizeof out, told);
+}
+
 static void call_count(void)
 {
     answer = engine_count(tally, 0, told);
@@ -213,8 +236,9 @@ static const struct {
     {"engine_judge", call_judge, ENGINE_JUDGE_STACK},       {"engine_survey", call_survey, ENGINE_SURVEY_STACK},
     {"engine_witness", call_witness, ENGINE_WITNESS_STACK}, {"engine_quick", call_quick, ENGINE_QUICK_STACK},
     {"engine_single", call_single, ENGINE_SINGLE_STACK},    {"engine_canonical", call_canonical, ENGINE_CANONICAL_STACK},
-    {"engine_count", call_count, ENGINE_COUNT_STACK},       {"engine_percent", call_percent, ENGINE_PERCENT_STACK},
-    {"engine_tally", call_tally, ENGINE_TALLY_STACK},       {"engine_report", call_report, ENGINE_REPORT_STACK},
+    {"engine_markup", call_markup, ENGINE_MARKUP_STACK},    {"engine_count", call_count, ENGINE_COUNT_STACK},
+    {"engine_percent", call_percent, ENGINE_PERCENT_STACK}, {"engine_tally", call_tally, ENGINE_TALLY_STACK},
+    {"engine_report", call_report, ENGINE_REPORT_STACK},
 };
 
 /* ---- measuring */

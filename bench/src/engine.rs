@@ -25,6 +25,11 @@ pub fn canonical(file: &[u8], out: &mut [u8]) -> Result<usize, Refusal> {
     ::engine::canonical(file, out).map_err(refusal)
 }
 
+/// Writes the tree's file of an element text to the front of the output; its length, or the refusal.
+pub fn markup(file: &[u8], text: &[u8], out: &mut [u8]) -> Result<usize, Refusal> {
+    ::engine::markup(file, text, out).map_err(refusal)
+}
+
 /// The engine's tally of trees' files end to end.
 pub fn tally(automaton: &[u8], trees: &[u8]) -> Result<Tally, Refusal> {
     let mut tally = ::engine::Tally::default();

@@ -14,6 +14,7 @@ pub mod families;
 #[cfg(feature = "engine")]
 mod forms;
 mod judges;
+pub mod markup;
 mod measure;
 #[cfg(feature = "engine")]
 mod parts;
@@ -30,6 +31,8 @@ pub mod survey;
 #[cfg(feature = "engine")]
 mod surveys;
 pub mod tables;
+#[cfg(feature = "engine")]
+mod texts;
 pub mod tree;
 
 /// Why an input is refused: the number of the line of document 01's table or of document 02's requests, and the place that the line names.
@@ -82,5 +85,7 @@ pub fn run() -> Result<(), String> {
     forms::run()?;
     #[cfg(feature = "engine")]
     reads::run()?;
+    #[cfg(feature = "engine")]
+    texts::run()?;
     Ok(())
 }

@@ -30,6 +30,15 @@ extern "C" {
     fn engine_quick(file: *const u8, length: usize, told: *mut Told) -> u32;
     fn engine_single(file: *const u8, length: usize, told: *mut Told) -> u32;
     fn engine_canonical(file: *const u8, length: usize, out: *mut u8, out_length: usize, told: *mut Told) -> u32;
+    fn engine_markup(
+        file: *const u8,
+        length: usize,
+        text: *const u8,
+        text_length: usize,
+        out: *mut u8,
+        out_length: usize,
+        told: *mut Told,
+    ) -> u32;
     fn engine_count(tally: *mut [u32; 3], outcome: u32, told: *mut Told) -> u32;
     fn engine_percent(accepted: u32, other: u32) -> u32;
     fn engine_tally(
@@ -86,6 +95,13 @@ pub fn single(file: &[u8]) -> (u32, Told) {
 pub fn canonical(file: &[u8], out: &mut [u8]) -> (u32, Told) {
     // SAFETY: both pointers are of slices, with their lengths; `out` is lent to be written to, and `told` is the call's own.
     telling(|told| unsafe { engine_canonical(file.as_ptr(), file.len(), out.as_mut_ptr(), out.len(), told) })
+}
+
+pub fn markup(file: &[u8], text: &[u8], out: &mut [u8]) -> (u32, Told) {
+    // SAFETY: the pointers are of slices, with their lengths; `out` is lent to be written to, and `told` is the call's own.
+    telling(|told| unsafe {
+        engine_markup(file.as_ptr(), file.len(), text.as_ptr(), text.len(), out.as_mut_ptr(), out.len(), told)
+    })
 }
 
 pub fn count(tally: &mut [u32; 3], outcome: u32) -> (u32, Told) {

@@ -1,5 +1,5 @@
 //! The engine for tree-walking automata, from its static library: judging, the survey and its plan's tree, the quick check, single, the one
-//! form of an automaton's file, the tally, and the report.
+//! form of an automaton's file, element texts as trees' files, the tally, and the report.
 //! Files are given as their bytes; every input is answered, a bad file by its refusal. Calls share nothing, and may be made by any number
 //! of threads; `bindings/engine.h` says how much stack each takes.
 mod declared;
@@ -11,6 +11,9 @@ pub const AUTOMATON: usize = 3072;
 
 /// The most bytes that a tree's file has.
 pub const TREE: usize = 4608;
+
+/// The most bytes that an element text has.
+pub const TEXT: usize = 32768;
 
 /// The most bytes that a plan takes, and the fewest that the survey accepts as a buffer.
 pub const PLAN: usize = 195;
@@ -144,6 +147,18 @@ pub fn single(file: &[u8]) -> Result<bool, Refusal> {
 /// call that is refused changes none. No output of `AUTOMATON` bytes is too short.
 pub fn canonical(file: &[u8], out: &mut [u8]) -> Result<usize, Refusal> {
     match declared::canonical(file, out) {
+        (0, [length, ..]) => Ok(length),
+        (_, told) => Err(Refusal::of(told)),
+    }
+}
+
+/// The tree of an element text, for an automaton's file, as a tree's file at the front of the output; its length. A text is one or more elements,
+/// an element is `<n>`, elements or none, and `</n>`, with n from 0 to 99; spaces, tabs and line ends may stand around tags. An element is a
+/// branch over what stands inside it and what follows it; where nothing stands there is a leaf of symbol 0. Later bytes stay, and a call that is
+/// refused changes none. No output of `TREE` bytes is too short. A text may open more than ten thousand elements: `bindings/engine.h` says what
+/// stack that takes.
+pub fn markup(file: &[u8], text: &[u8], out: &mut [u8]) -> Result<usize, Refusal> {
+    match declared::markup(file, text, out) {
         (0, [length, ..]) => Ok(length),
         (_, told) => Err(Refusal::of(told)),
     }

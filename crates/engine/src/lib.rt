@@ -26,6 +26,8 @@ ghost use Rattle.witness.specs.Written.{witnessOf};
 ghost use Rattle.witness.specs.Promise as witness-spec;
 ghost use Rattle.canonical.specs.Canonical.{canonicalOf};
 ghost use Rattle.canonical.specs.Promise as canonical-spec;
+ghost use Rattle.markup.specs.Written.{markupOf};
+ghost use Rattle.markup.specs.Promise as markup-spec;
 
 // Whether an automaton's file accepts a tree's file.
 pub fn judge(automaton: &[u8], tree: &[u8]) -> Answer
@@ -73,6 +75,14 @@ pub fn canonical(file: &[u8], out: &mut [u8]) -> Written
     ensures right { λ r. ⌜ canonical-spec.Promise (now (file .entry)) (now (out .entry)) (filled r (now (out .exit))) ⌝ }
 {
     canonical::write(file, out)
+}
+
+// The tree of an element text, as a tree's file at the front of the output: the text's tags are branch symbols of the automaton's file.
+pub fn markup(file: &[u8], text: &[u8], out: &mut [u8]) -> Written
+    ensures equals { λ r. ⌜ filled r (now (out .exit)) ≡ markupOf (now (file .entry)) (now (text .entry)) (now (out .entry)) ⌝ }
+    ensures right { λ r. ⌜ markup-spec.Promise (now (file .entry)) (now (text .entry)) (now (out .entry)) (filled r (now (out .exit))) ⌝ }
+{
+    markup::write(file, text, out)
 }
 
 // The lent tally counts one outcome more; or, where it is full, stays as it was, and refusal 14 is the answer.

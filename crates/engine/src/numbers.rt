@@ -25,6 +25,8 @@ ghost use Rattle.witness.specs.Written.{witnessOf};
 ghost use Rattle.witness.specs.Promise as witness-spec;
 ghost use Rattle.canonical.specs.Canonical.{canonicalOf};
 ghost use Rattle.canonical.specs.Promise as canonical-spec;
+ghost use Rattle.markup.specs.Written.{markupOf};
+ghost use Rattle.markup.specs.Promise as markup-spec;
 ghost use Rattle.numbering.specs.Numbers.{answerNumber, answerTold, surveyNumber, surveyTold, quickNumber, quickTold, singleNumber, singleTold, writtenNumber, writtenTold, outcomeNumbered, tallyOf, tallyNumbers, checkNumber, checkTold, judgedTally};
 
 // Whether an automaton's file accepts a tree's file.
@@ -95,6 +97,23 @@ pub extern "C" fn engine_canonical(file: &[u8], out: &mut [u8], told: &mut [usiz
         × canonical-spec.Promise (now (file .entry)) (now (out .entry)) (filled a (now (out .exit)))) ⌝ }
 {
     numbering::put_written(crate::canonical(file, out), told)
+}
+
+// The tree of an element text, as a tree's file at the front of the output.
+#[no_mangle]
+pub extern "C" fn engine_markup(
+    file: &[u8],
+    text: &[u8],
+    out: &mut [u8],
+    told: &mut [usize; 3],
+) -> u32
+    ensures equals { λ r. ⌜ (r ≡ writtenNumber (markupOf (now (file .entry)) (now (text .entry)) (now (out .entry)) .answer))
+        × (now (told .exit) ≡ writtenTold (markupOf (now (file .entry)) (now (text .entry)) (now (out .entry)) .answer))
+        × (now (out .exit) ≡ markupOf (now (file .entry)) (now (text .entry)) (now (out .entry)) .out) ⌝ }
+    ensures right { λ r. ⌜ ((a : Written) × (r ≡ writtenNumber a) × (now (told .exit) ≡ writtenTold a)
+        × markup-spec.Promise (now (file .entry)) (now (text .entry)) (now (out .entry)) (filled a (now (out .exit)))) ⌝ }
+{
+    numbering::put_written(crate::markup(file, text, out), told)
 }
 
 // One outcome more on a tally of three numbers: accepted, other, refused.

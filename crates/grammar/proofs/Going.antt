@@ -15,8 +15,8 @@ use Rattle.grammar.specs.Grammar.{written, digitsIf}
 use Rattle.grammar.specs.Pushdown.{Configuration, between, tag, one, two, closing, dead, step, steps, byClass, closingOn, stateIf, Goes, here, on, Alive}
 use Rattle.grammar.proofs.PushdownLaws.{step-space, step-less, step-digit, step-second, step-one-end, step-two-end, step-slash, step-closing}
 use Rattle.tags.proofs.ClassLaws.{class-digit, class-less, class-slash, class-greater}
-use Rattle.grammar.specs.Reading.{classAt, IsByte, Stuck, Skipped, CloseAt, Passed, PartRead, RunPassed, Filled, ElementRead, RunRead, Named, Shut, CloseRead, shutBy}
-use Rattle.grammar.specs.declared.Closing.{Closing}
+use Rattle.grammar.specs.Reading.{classAt, IsByte, Stuck, Skipped, CloseAt, Passed, PartRead, RunPassed, Filled, ElementRead, RunRead, Named, Shut, CloseRead}
+use Rattle.grammar.specs.declared.Reading.{Reading}
 use Rattle.tags.proofs.Listed.{short-nodes, long-nodes, short-close-nodes, long-close-nodes}
 
 -- ---- going on
@@ -340,9 +340,9 @@ byte-yes s at b t e h = rw (not-false t e) at h
 
 -- an element is read: its tags and the run inside it, and the nodes up to the place after it
 pub element-read :
-    (s : List ℕ) (at n inside end count : ℕ) (nodes : List ℕ) (x : Closing) → Named s at n inside → RunPassed s inside end → CloseRead s end n x →
-    ((r : ℕ) → x ≡ Closing.To r → Filled s r count nodes) → ElementRead s at nodes (shutBy x count)
-element-read s at n inside end count nodes (Closing.To r) h k m f =
+    (s : List ℕ) (at n inside end count : ℕ) (nodes : List ℕ) (x : Reading) → Named s at n inside → RunPassed s inside end → CloseRead s end n x →
+    ((r : ℕ) → x ≡ Reading.To r → Filled s r count nodes) → ElementRead s at count nodes x
+element-read s at n inside end count nodes (Reading.To r) h k m f =
     let p = k .passed in (
       record {
         from = omega (arith, h .from, p .from, m .from);
@@ -352,7 +352,7 @@ element-read s at n inside end count nodes (Closing.To r) h k m f =
       omega (arith, h .from, p .from, m .from),
       f r refl,
     )
-element-read s at n inside end count nodes (Closing.Wrong place) h k m f =
+element-read s at n inside end count nodes (Reading.Wrong place) h k m f =
     let p = k .passed in
     λ stack. stuck-after (omega (arith, h .from, p .from)) (trans (h .goes stack) (p .goes (n ∷ stack))) (m stack)
 

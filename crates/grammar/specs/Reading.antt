@@ -12,7 +12,6 @@ use Rattle.grammar.specs.Grammar.{Elements, Text, WrongAt}
 use Rattle.grammar.specs.Pushdown.{Configuration, between, step, dead, Goes, Alive}
 use Rattle.grammar.specs.declared.Reading.{Reading}
 use Rattle.grammar.specs.declared.Opening.{Opening}
-use Rattle.grammar.specs.declared.Closing.{Closing}
 use Rattle.grammar.specs.declared.Parse.{Parse}
 use Rattle.blocks.specs.declared.Found.{Found}
 
@@ -77,13 +76,13 @@ pub record Filled (s : List ℕ) (at count : ℕ) (nodes : List ℕ) : Type 0 wh
   pub rest : drop count (nodesIn s) ≡ nodesIn (drop at s)
 
 -- a run: up to the end or to a closing tag
-abbrev pub RunRead : List ℕ → (at : ℕ) → (nodes : List ℕ) → Reading → Type 0
-RunRead s at nodes (Reading.To r count) = RunPassed s at r × Filled s r count nodes
-RunRead s at nodes (Reading.Wrong place) = (stack : List ℕ) → Stuck s at (between stack) place
+abbrev pub RunRead : List ℕ → (at count : ℕ) → (nodes : List ℕ) → Reading → Type 0
+RunRead s at count nodes (Reading.To r) = RunPassed s at r × Filled s r count nodes
+RunRead s at count nodes (Reading.Wrong place) = (stack : List ℕ) → Stuck s at (between stack) place
 
-abbrev pub ElementRead : List ℕ → (at : ℕ) → (nodes : List ℕ) → Reading → Type 0
-ElementRead s at nodes (Reading.To r count) = Passed s at r × (at < r) × Filled s r count nodes
-ElementRead s at nodes (Reading.Wrong place) = (stack : List ℕ) → Stuck s at (between stack) place
+abbrev pub ElementRead : List ℕ → (at count : ℕ) → (nodes : List ℕ) → Reading → Type 0
+ElementRead s at count nodes (Reading.To r) = Passed s at r × (at < r) × Filled s r count nodes
+ElementRead s at count nodes (Reading.Wrong place) = (stack : List ℕ) → Stuck s at (between stack) place
 
 -- an opening tag of n, up to r
 pub record Named (s : List ℕ) (at n r : ℕ) : Type 0 where
@@ -104,13 +103,9 @@ pub record Shut (s : List ℕ) (at n r : ℕ) : Type 0 where
   pub goes : (stack : List ℕ) → Goes s at (between (n ∷ stack)) r (between stack)
   pub nodes : nodesIn (drop at s) ≡ 0 ∷ nodesIn (drop r s)
 
-abbrev pub CloseRead : List ℕ → ℕ → ℕ → Closing → Type 0
-CloseRead s at n (Closing.To r) = Shut s at n r
-CloseRead s at n (Closing.Wrong place) = (stack : List ℕ) → Stuck s at (between (n ∷ stack)) place
-
-abbrev pub shutBy : Closing → (count : ℕ) → Reading
-shutBy (Closing.To r) count = Reading.To r count
-shutBy (Closing.Wrong place) count = Reading.Wrong place
+abbrev pub CloseRead : List ℕ → ℕ → ℕ → Reading → Type 0
+CloseRead s at n (Reading.To r) = Shut s at n r
+CloseRead s at n (Reading.Wrong place) = (stack : List ℕ) → Stuck s at (between (n ∷ stack)) place
 
 -- a text, or where it goes wrong, of the grammar itself
 abbrev pub TextRead : List ℕ → Found → Type 0

@@ -12,7 +12,7 @@ ghost use lib.ListN.{length, getD};
 ghost use Rattle.tags.specs.Classes.{classOf, IsTable};
 ghost use Rattle.tags.specs.Tags.{nodesIn};
 ghost use Rattle.grammar.specs.Wrong.{wrongPlace};
-ghost use Rattle.grammar.specs.Reading.{classAt, IsByte, Skipped, CloseAt, Opens, Filled, RunRead, ElementRead, OpenRead, CloseRead, shutBy, parseOf, Listed};
+ghost use Rattle.grammar.specs.Reading.{classAt, IsByte, Skipped, CloseAt, Opens, Filled, RunRead, ElementRead, OpenRead, CloseRead, parseOf, Listed};
 
 // The class of a byte, from a table that is lent.
 fn class_in(b: u8, classes: &[u8; 256]) -> u8
@@ -25,21 +25,15 @@ fn class_in(b: u8, classes: &[u8; 256]) -> u8
 // No byte: past the end.
 const NONE: u8 = 6;
 
-// The place after what was read, and how many nodes there are so far; or the first place at which nothing could be right.
+// The place after what was read, or the first place at which nothing could be right.
 pub enum Reading {
-    To(usize, usize),
+    To(usize),
     Wrong(usize),
 }
 
 // An opening tag: its number and the place after it.
 pub enum Opening {
     Named(u8, usize),
-    Wrong(usize),
-}
-
-// A closing tag: the place after it.
-pub enum Closing {
-    To(usize),
     Wrong(usize),
 }
 
@@ -107,75 +101,70 @@ fn is_byte(text: &[u8], at: usize, b: u8) -> bool
     ensures { λ r. ⌜ IsByte (now (text .entry)) at b r ⌝ }
 {
     if at < text.len() {
-        text[at] == b
+        let here = text[at];
+        here == b
     } else {
         false
     }
 }
 
 // The closing tag of a number, where a run has ended.
-fn close_tag(text: &[u8], at: usize, number: u8) -> Closing
+fn close_tag(text: &[u8], at: usize, number: u8) -> Reading
     requires { ⌜ (at ≤ length (now text)) × (at < length (now text) → CloseAt (now text) at) × (number < 100) ⌝ }
     ensures { λ r. ⌜ CloseRead (now (text .entry)) at number r ⌝ }
 {
     if at == text.len() {
-        return Closing::Wrong(at);
+        return Reading::Wrong(at);
     }
     if number < 10 {
         if !is_byte(text, at + 2, 48 + number) {
-            return Closing::Wrong(at + 2);
+            return Reading::Wrong(at + 2);
         }
         if !is_byte(text, at + 3, 62) {
-            return Closing::Wrong(at + 3);
+            return Reading::Wrong(at + 3);
         }
-        Closing::To(at + 4)
+        Reading::To(at + 4)
     } else {
         if !is_byte(text, at + 2, 48 + number / 10) {
-            return Closing::Wrong(at + 2);
+            return Reading::Wrong(at + 2);
         }
         if !is_byte(text, at + 3, 48 + number % 10) {
-            return Closing::Wrong(at + 3);
+            return Reading::Wrong(at + 3);
         }
         if !is_byte(text, at + 4, 62) {
-            return Closing::Wrong(at + 4);
+            return Reading::Wrong(at + 4);
         }
-        Closing::To(at + 5)
+        Reading::To(at + 5)
     }
 }
 
-// After a closing tag, with so many nodes.
-fn shut(closing: Closing, count: usize) -> Reading
-    ensures { λ r. ⌜ r ≡ shutBy closing count ⌝ }
-{
-    match closing {
-        Closing::To(after) => Reading::To(after, count),
-        Closing::Wrong(place) => Reading::Wrong(place),
-    }
-}
-
-// An element, through its run; its `<` stands at `at`. Its nodes go to the list behind the first `count`: its own, those of the run inside, and
-// the leaf by which that run ends.
+// An element, through its run; its `<` stands at `at`. Its nodes are listed behind those that there are: its own, those of the run inside, and the
+// leaf by which that run ends.
 fn element(
     text: &[u8],
     at: usize,
     classes: &[u8; 256],
     nodes: &mut [u8; 10924],
-    count: usize,
+    count: &mut usize,
 ) -> Reading
     requires { ⌜ Opens (now text) at ⌝ }
     requires { ⌜ IsTable (now classes) ⌝ }
-    requires { ⌜ Filled (now text) at count (now nodes) ⌝ }
-    ensures { λ r. ⌜ ElementRead (now (text .entry)) at (now (nodes .exit)) r ⌝ }
+    requires { ⌜ Filled (now text) at (now count) (now nodes) ⌝ }
+    ensures { λ r. ⌜ ElementRead (now (text .entry)) at (now (count .exit)) (now (nodes .exit)) r ⌝ }
 {
     match open_tag(text, at, classes) {
         Opening::Wrong(place) => Reading::Wrong(place),
         Opening::Named(number, inside) => {
-            nodes[count] = number;
-            match run(text, inside, classes, nodes, count + 1) {
+            let first = *count;
+            nodes[first] = number;
+            *count = first + 1;
+            match run(text, inside, classes, nodes, count) {
                 Reading::Wrong(place) => Reading::Wrong(place),
-                Reading::To(end, last) => {
+                Reading::To(end) => {
+                    let last = *count;
                     nodes[last] = 0;
-                    shut(close_tag(text, end, number), last + 1)
+                    *count = last + 1;
+                    close_tag(text, end, number)
                 }
             }
         }
@@ -188,31 +177,29 @@ fn run(
     at: usize,
     classes: &[u8; 256],
     nodes: &mut [u8; 10924],
-    count: usize,
+    count: &mut usize,
 ) -> Reading
     requires { ⌜ at ≤ length (now text) ⌝ }
     requires { ⌜ IsTable (now classes) ⌝ }
-    requires { ⌜ Filled (now text) at count (now nodes) ⌝ }
-    ensures { λ r. ⌜ RunRead (now (text .entry)) at (now (nodes .exit)) r ⌝ }
+    requires { ⌜ Filled (now text) at (now count) (now nodes) ⌝ }
+    ensures { λ r. ⌜ RunRead (now (text .entry)) at (now (count .exit)) (now (nodes .exit)) r ⌝ }
 {
     let mut next = skip(text, at, classes);
-    let mut made = count;
     while class_at(text, next, classes) == LESS {
         if class_at(text, next + 1, classes) == SLASH {
-            return Reading::To(next, made);
+            return Reading::To(next);
         }
-        match element(text, next, classes, nodes, made) {
+        match element(text, next, classes, nodes, count) {
             Reading::Wrong(place) => {
                 return Reading::Wrong(place);
             }
-            Reading::To(after, more) => {
+            Reading::To(after) => {
                 next = skip(text, after, classes);
-                made = more;
             }
         }
     }
     if next == text.len() {
-        Reading::To(next, made)
+        Reading::To(next)
     } else {
         Reading::Wrong(next)
     }
@@ -228,14 +215,15 @@ pub fn read_text(text: &[u8], nodes: &mut [u8; 10924]) -> Parse
     if first == text.len() {
         return Parse::Wrong(first);
     }
-    match run(text, first, &classes, nodes, 0) {
+    let mut count = 0;
+    match run(text, first, &classes, nodes, &mut count) {
         Reading::Wrong(place) => Parse::Wrong(place),
-        Reading::To(end, last) => {
+        Reading::To(end) => {
             if end != text.len() {
                 return Parse::Wrong(end + 1);
             }
-            nodes[last] = 0;
-            Parse::Nodes(last + 1)
+            nodes[count] = 0;
+            Parse::Nodes(count + 1)
         }
     }
 }

@@ -6,8 +6,8 @@ use Rattle.grammar.proofs.is_byte.Tie as tie
 use Rattle.grammar.proofs.is_byte.Reads as reads
 use Rattle.grammar.proofs.is_byte.Lts as lts
 
-shared-slice-read-result : tie.Need-shared-slice-read-result
-shared-slice-read-result c = search needs
+shared-slice-read-here : tie.Need-shared-slice-read-here
+shared-slice-read-here c = search needs
 
 returns : tie.Need-returns
 returns c = let a = c .before .before .args in byte-is (a .text .now) (a .at) (a .b) (c .before .if1 .taken)
@@ -16,4 +16,4 @@ returns-2 : tie.Need-returns-2
 returns-2 c = λ h. absurd (omega arith)
 
 pub is-byte-spec : {M : Type 1} → statement M
-is-byte-spec = tie.close (tie.spec shared-slice-read-result returns returns-2)
+is-byte-spec = tie.close (tie.spec shared-slice-read-here returns returns-2)

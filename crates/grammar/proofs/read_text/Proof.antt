@@ -1,7 +1,9 @@
+-- `grammar::read_text` meets its contract.
+-- Assumes nothing.
 use borrow.Author.Needs.{needs}
 use native.Mathlib.Omega.{arith}
 use Prim.Native.Nat.{ℕ, _+_}
-use mathlib.Core.Path.{_≡_, sym, ap, _∙_}
+use mathlib.Core.Path.{_≡_, ap, _∙_}
 use mathlib.Core.List.{List}
 use Rattle.blocks.specs.declared.Found.{Found}
 use Rattle.grammar.specs.Wrong.{wrongPlace}
@@ -25,7 +27,7 @@ told s a k h = ap (λ (f : Found). parseOf f k) (one-answer s a (wrongPlace s) h
 
 -- the run that was read
 passed : (c : tie.After-known-told2) →
-    RunRead (c .before .before .before .before .before .before .before .before .before .before .before .args .text .now) (c .before .before .before .before .before .before .before .skip .result) (c .before .before .before .run .last .1 .1 .1 .0) (Reading.To (c .before .end .given .0 .0) (c .before .end .given .0 .1 .0))
+    RunRead (c .before .before .before .before .before .before .before .before .before .before .before .before .args .text .now) (c .before .before .before .before .before .before .before .before .skip .result) (c .before .before .before .run .last .1 .1 .1 .1 .0) (c .before .before .before .run .last .1 .1 .1 .0) (Reading.To (c .before .end .given .0 .0))
 passed c = rw (c .before .end .given .1) at (c .before .before .before .run .ensures)
 
 class-table-requires : tie.Need-class-table-requires
@@ -39,9 +41,9 @@ returns c = (told _ (Found.At (c .before .skip .result)) _ (spaces-wrong (c .if1
 
 run-requires : tie.Need-run-requires
 run-requires c κs =
-    let k = c .before .before .before .skip .ensures in
-    let q = c .before .before .before .before .before .before .before .pre in
-    (k .to, (c .before .before .before .before .before .class-table .ensures, on-filled (nothing-filled _ _ (q .0) (q .1)) (k .from) (k .nodes)))
+    let k = c .before .before .before .before .skip .ensures in
+    let q = c .before .before .before .before .before .before .before .before .pre in
+    (k .to, (c .before .before .before .before .before .before .class-table .ensures, on-filled (nothing-filled _ _ (q .0) (q .1)) (k .from) (k .nodes)))
 
 enum-known-place : tie.Need-enum-known-place
 enum-known-place c = search needs
@@ -49,30 +51,30 @@ enum-known-place c = search needs
 enum-known-end : tie.Need-enum-known-end
 enum-known-end c = search needs
 
-add-t18 : tie.Need-add-t18
-add-t18 c = let p = passed (c .before) .0 .passed in omega (arith, p .to)
+add-t19 : tie.Need-add-t19
+add-t19 c = let p = passed (c .before) .0 .passed in omega (arith, p .to)
 
 returns-2 : tie.Need-returns-2
 returns-2 c =
     let d = c .before in
-    (told _ (Found.At (d .before .end .given .0 .0 + 1)) _ (text-closed (d .before .before .before .before .before .before .before .skip .ensures) (passed d .0) (c .if2 .taken)), tt)
+    (told _ (Found.At (d .before .end .given .0 .0 + 1)) _ (text-closed (d .before .before .before .before .before .before .before .before .skip .ensures) (passed d .0) (c .if2 .taken)), tt)
 
 element-write-nodes : tie.Need-element-write-nodes
 element-write-nodes c = let p = passed (c .before) in filled-room (p .1) (p .0 .passed .to)
 
-add-t16 : tie.Need-add-t16
-add-t16 c = let p = passed (c .before) in let h = filled-room (p .1) (p .0 .passed .to) in search needs
+add-t22 : tie.Need-add-t22
+add-t22 c = let p = passed (c .before) in let h = filled-room (p .1) (p .0 .passed .to) in omega arith
 
 returns-3 : tie.Need-returns-3
 returns-3 c =
-    (told _ (Found.At (c .before .place .given .0 .0)) _ (text-stuck (c .before .before .before .before .before .before .before .skip .ensures) (rw (c .before .place .given .1) at (c .before .before .before .run .ensures))), tt)
+    (told _ (Found.At (c .before .place .given .0 .0)) _ (text-stuck (c .before .before .before .before .before .before .before .before .skip .ensures) (rw (c .before .place .given .1) at (c .before .before .before .run .ensures))), tt)
 
 returns-4 : tie.Need-returns-4
 returns-4 c =
     let d = c .before in
     let p = passed d in
     let e = end-filled (p .1) (c .if2 .left) in
-    let t = text-right (d .before .before .before .before .before .before .before .skip .ensures) (d .before .before .before .before .before .before .if1 .left) (p .0) (c .if2 .left) in
+    let t = text-right (d .before .before .before .before .before .before .before .before .skip .ensures) (d .before .before .before .before .before .before .before .if1 .left) (p .0) (c .if2 .left) in
     (ap Parse.Nodes (e .0) ∙ told _ Found.Nothing _ t, e .1)
 
 pub read-text-spec : {M : Type 1} → statement M
@@ -85,9 +87,9 @@ read-text-spec =
     run-requires
     enum-known-place
     enum-known-end
-    add-t18
+    add-t19
     returns-2
     element-write-nodes
-    add-t16
+    add-t22
     returns-3
     returns-4)
