@@ -19,7 +19,7 @@ use Rattle.tags.specs.Classes.{classOf}
 use Rattle.grammar.specs.Grammar.{Elements, empty, element, Spaces, none, more, Writes, blank, tagged, Text, OneOrMore, Begins, WrongAt, openTag, closeTag}
 use Rattle.grammar.specs.Pushdown.{Configuration, between, tag, one, two, closing, dead, step, steps, Alive}
 use Rattle.grammar.specs.Wrong.{alive, closed, onlySpaces, begins, isText, either, wrongAt, wrongPlace}
-use Rattle.grammar.specs.Reading.{TextRead}
+use Rattle.grammar.specs.Reading.{TextRead, parseOf}
 use Rattle.grammar.proofs.PushdownLaws.{steps-append, text-steps, alive-begins, between-writes, dead-begins}
 use Rattle.grammar.proofs.Once.{wrong-once}
 
@@ -190,3 +190,7 @@ one-answer s Found.Nothing Found.Nothing h k = refl
 one-answer s Found.Nothing (Found.At q) h k = absurd (k .no-text (h .0) (h .1))
 one-answer s (Found.At p) Found.Nothing h k = absurd (h .no-text (k .0) (k .1))
 one-answer s (Found.At p) (Found.At q) h k = ap Found.At (wrong-once h k)
+
+-- so what the grammar answers is what is computed
+pub told : (s : List ℕ) (a : Found) (k : ℕ) → TextRead s a → parseOf a k ≡ parseOf (wrongPlace s) k
+told s a k h = ap (λ (f : Found). parseOf f k) (one-answer s a (wrongPlace s) h (answered s))

@@ -15,8 +15,8 @@ use Rattle.grammar.specs.Grammar.{written, digitsIf}
 use Rattle.grammar.specs.Pushdown.{Configuration, between, tag, one, two, closing, dead, step, steps, byClass, closingOn, stateIf, Goes, here, on, Alive}
 use Rattle.grammar.proofs.PushdownLaws.{step-space, step-less, step-digit, step-second, step-one-end, step-two-end, step-slash, step-closing}
 use Rattle.tags.proofs.ClassLaws.{class-digit, class-less, class-slash, class-greater}
-use Rattle.grammar.specs.Reading.{classAt, IsByte, Stuck, Skipped, CloseAt, Passed, PartRead, RunPassed, Filled, ElementRead, RunRead, Named, Shut, CloseRead}
-use Rattle.grammar.specs.declared.Reading.{Reading}
+use Rattle.grammar.specs.Reading.{classAt, IsByte, Stuck, Skipped, CloseAt, Passed, PartRead, RunPassed, Filled, ElementRead, RunRead, Named, Shut, CloseRead, shutBy}
+use Rattle.grammar.specs.declared.Closing.{Closing}
 use Rattle.tags.proofs.Listed.{short-nodes, long-nodes, short-close-nodes, long-close-nodes}
 
 -- ---- going on
@@ -336,13 +336,27 @@ byte-no s at b t e h = rw (not-true t e) at h
 pub byte-yes : (s : List ℕ) (at b : ℕ) (t : Bool) → not t ≡ false → IsByte s at b t → IsByte s at b true
 byte-yes s at b t e h = rw (not-false t e) at h
 
+-- a closing tag where nothing is open
+pub root-closed : (s : List ℕ) (at : ℕ) → CloseAt s at → Stuck s at (between []) (at + 1)
+unfolding classOf
+root-closed s at c =
+    record {
+      from = omega arith;
+      to = omega (arith, c .room);
+      state = tag [];
+      goes = go1 s at (between []) (omega (arith, c .room)) (rw (c .less) (step-less []));
+      alive = tt;
+      stop = λ j. rw (c .slash) (root-dead 47 (λ z. omega arith));
+      early = λ e f. let z : _≡_ {A = ℕ} 0 1 = cc in omega arith;
+    }
+
 -- ---- an element, and a run
 
 -- an element is read: its tags and the run inside it, and the nodes up to the place after it
 pub element-read :
-    (s : List ℕ) (at n inside end count : ℕ) (nodes : List ℕ) (x : Reading) → Named s at n inside → RunPassed s inside end → CloseRead s end n x →
-    ((r : ℕ) → x ≡ Reading.To r → Filled s r count nodes) → ElementRead s at count nodes x
-element-read s at n inside end count nodes (Reading.To r) h k m f =
+    (s : List ℕ) (at n inside end count : ℕ) (nodes : List ℕ) (x : Closing) → Named s at n inside → RunPassed s inside end → CloseRead s end n x →
+    ((r : ℕ) → x ≡ Closing.To r → Filled s r count nodes) → ElementRead s at count nodes (shutBy x)
+element-read s at n inside end count nodes (Closing.To r) h k m f =
     let p = k .passed in (
       record {
         from = omega (arith, h .from, p .from, m .from);
@@ -352,7 +366,7 @@ element-read s at n inside end count nodes (Reading.To r) h k m f =
       omega (arith, h .from, p .from, m .from),
       f r refl,
     )
-element-read s at n inside end count nodes (Reading.Wrong place) h k m f =
+element-read s at n inside end count nodes (Closing.Wrong place) h k m f =
     let p = k .passed in
     λ stack. stuck-after (omega (arith, h .from, p .from)) (trans (h .goes stack) (p .goes (n ∷ stack))) (m stack)
 

@@ -4,3 +4,4 @@ pub mod Decided
 pub mod Going
 pub mod Filling
 pub mod Whole
+pub mod Deep

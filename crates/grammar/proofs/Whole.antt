@@ -14,10 +14,10 @@ use borrow.Author.Tests.{eqb-true, eqb-false}
 use Rattle.tags.specs.Classes.{classOf}
 use Rattle.grammar.specs.Grammar.{Elements, empty, element, Spaces, none, more, openTag, closeTag, Writes, blank, tagged, Text, OneOrMore, Begins, WrongAt}
 use Rattle.grammar.specs.Pushdown.{Configuration, between, tag, dead, step, steps, Goes, here, on, Alive}
-use Rattle.grammar.proofs.PushdownLaws.{steps-append, text-steps, alive-begins, between-writes, dead-begins, step-less}
+use Rattle.grammar.proofs.PushdownLaws.{steps-append, text-steps, alive-begins, between-writes, dead-begins}
 use Rattle.grammar.proofs.Decided.{next-steps, wrong-there, less-in}
 use Rattle.grammar.specs.Reading.{Stuck, Skipped, CloseAt, Passed, RunPassed, TextRead}
-use Rattle.grammar.proofs.Going.{go1, trans, stuck-after, root-dead}
+use Rattle.grammar.proofs.Going.{trans, stuck-after, root-closed}
 
 -- where the machine has got to is what it makes of the bytes before
 pub goes-steps :
@@ -65,31 +65,24 @@ some : (s : List ℕ) (i : ℕ) (r : Elements) → i < length s → (classOf (ge
 some s i empty h k (blank b) = k (spaces-each b i h)
 some s i (element n x y) h k w = tt
 
-pub text-right :
-    {s : List ℕ} {first end : ℕ} → Skipped s 0 first → (first ≡ length s → ⊥) → RunPassed s first end → end ≡ length s → (r : Elements) × Text s r
-text-right {s} {first} {end} h k m e =
-    let l : first < length s = lt-of-le-ne (h .to) k in
-    let g = from-start (trans (h .goes []) (m .passed .goes [])) in
-    let w = between-writes s (sym (ap (steps (between [])) (ap (λ (n : ℕ). take n s) e ∙ take-length s)) ∙ g) in
+-- the automaton reads the whole text, with nothing open at its end
+pub goes-right :
+    {s : List ℕ} {first end : ℕ} → Skipped s 0 first → first < length s → Goes s 0 (between []) end (between []) → end ≡ length s → (r : Elements) × Text s r
+goes-right {s} {first} {end} h l g e =
+    let w = between-writes s (sym (ap (steps (between [])) (ap (λ (n : ℕ). take n s) e ∙ take-length s)) ∙ from-start g) in
     (w .0, record { writes = w .1; some = some s first (w .0) l (h .ends l) (w .1) })
 
--- a closing tag with empty open
+pub text-right :
+    {s : List ℕ} {first end : ℕ} → Skipped s 0 first → (first ≡ length s → ⊥) → RunPassed s first end → end ≡ length s → (r : Elements) × Text s r
+text-right h k m e = goes-right h (lt-of-le-ne (h .to) k) (trans (h .goes []) (m .passed .goes [])) e
+
+-- a closing tag where nothing is open
 pub text-closed :
     {s : List ℕ} {first end : ℕ} → Skipped s 0 first → RunPassed s first end → (end ≡ length s → ⊥) → WrongAt s (end + 1)
-unfolding classOf
 text-closed {s} {first} {end} h m k =
     let l : end < length s = lt-of-le-ne (m .passed .to) k in
-    let c = m .ends l in
-    stuck-wrong
-    (record {
-      from = omega arith;
-      to = omega (arith, c .room);
-      state = tag [];
-      goes = trans (h .goes []) (trans (m .passed .goes []) (go1 s end (between []) l (rw (c .less) (step-less []))));
-      alive = tt;
-      stop = λ j. rw (c .slash) (root-dead 47 (λ z. omega arith));
-      early = λ e f. let z : _≡_ {A = ℕ} 0 1 = cc in omega arith;
-    })
+    let g = trans (h .goes []) (m .passed .goes []) in
+    stuck-wrong (stuck-after (omega arith) g (root-closed s end (m .ends l)))
 
 pub text-stuck : {s : List ℕ} {first p : ℕ} → Skipped s 0 first → ((stack : List ℕ) → Stuck s first (between stack) p) → WrongAt s p
 text-stuck h k = stuck-wrong (stuck-after (h .from) (h .goes []) (k []))

@@ -1,6 +1,6 @@
 -- What the functions that read a text answer: of a part of it by the pushdown automaton, of a whole text by the grammar; and the nodes that they list.
 -- Interface: `Filled`, `ElementRead`, `RunRead`, `TextRead`.
-use Prim.Native.Nat.{ℕ, _+_, _*_, _<_, _≤_}
+use Prim.Native.Nat.{ℕ, zero, suc, _+_, _-_, _*_, _<_, _≤_}
 use mathlib.Core.Path.{_≡_}
 use mathlib.Core.Bool.{Bool, true, false}
 use mathlib.Core.List.{List, [], _∷_}
@@ -12,6 +12,8 @@ use Rattle.grammar.specs.Grammar.{Elements, Text, WrongAt}
 use Rattle.grammar.specs.Pushdown.{Configuration, between, step, dead, Goes, Alive}
 use Rattle.grammar.specs.declared.Reading.{Reading}
 use Rattle.grammar.specs.declared.Opening.{Opening}
+use Rattle.grammar.specs.declared.Closing.{Closing}
+use Rattle.grammar.specs.declared.Step.{Step}
 use Rattle.grammar.specs.declared.Parse.{Parse}
 use Rattle.blocks.specs.declared.Found.{Found}
 
@@ -79,10 +81,12 @@ pub record Filled (s : List ℕ) (at count : ℕ) (nodes : List ℕ) : Type 0 wh
 abbrev pub RunRead : List ℕ → (at count : ℕ) → (nodes : List ℕ) → Reading → Type 0
 RunRead s at count nodes (Reading.To r) = RunPassed s at r × Filled s r count nodes
 RunRead s at count nodes (Reading.Wrong place) = (stack : List ℕ) → Stuck s at (between stack) place
+RunRead s at count nodes Reading.Deep = length nodes ≡ 10924
 
 abbrev pub ElementRead : List ℕ → (at count : ℕ) → (nodes : List ℕ) → Reading → Type 0
 ElementRead s at count nodes (Reading.To r) = Passed s at r × (at < r) × Filled s r count nodes
 ElementRead s at count nodes (Reading.Wrong place) = (stack : List ℕ) → Stuck s at (between stack) place
+ElementRead s at count nodes Reading.Deep = length nodes ≡ 10924
 
 -- an opening tag of n, up to r
 pub record Named (s : List ℕ) (at n r : ℕ) : Type 0 where
@@ -103,9 +107,54 @@ pub record Shut (s : List ℕ) (at n r : ℕ) : Type 0 where
   pub goes : (stack : List ℕ) → Goes s at (between (n ∷ stack)) r (between stack)
   pub nodes : nodesIn (drop at s) ≡ 0 ∷ nodesIn (drop r s)
 
-abbrev pub CloseRead : List ℕ → ℕ → ℕ → Reading → Type 0
-CloseRead s at n (Reading.To r) = Shut s at n r
-CloseRead s at n (Reading.Wrong place) = (stack : List ℕ) → Stuck s at (between (n ∷ stack)) place
+abbrev pub CloseRead : List ℕ → ℕ → ℕ → Closing → Type 0
+CloseRead s at n (Closing.To r) = Shut s at n r
+CloseRead s at n (Closing.Wrong place) = (stack : List ℕ) → Stuck s at (between (n ∷ stack)) place
+
+abbrev pub shutBy : Closing → Reading
+shutBy (Closing.To r) = Reading.To r
+shutBy (Closing.Wrong place) = Reading.Wrong place
+
+-- ---- the same with the numbers of the open elements in a list
+
+abbrev pub openedBy : Opening → Step
+openedBy (Opening.Named n r) = Step.Opens n r
+openedBy (Opening.Wrong place) = Step.Wrong place
+
+abbrev pub closedBy : Closing → Step
+closedBy (Closing.To r) = Step.Closes r
+closedBy (Closing.Wrong place) = Step.Wrong place
+
+-- the numbers of the elements that are open, innermost first, where a list has them from the outermost on
+abbrev pub openIn : List ℕ → (depth : ℕ) → List ℕ
+openIn l zero = []
+openIn l (suc d) = getD l d 0 ∷ openIn l d
+
+pub record Numbered (l : List ℕ) (depth : ℕ) : Type 0 where
+  pub long : length l ≡ 10924
+  pub deep : depth ≤ 10923
+  pub small : (i : ℕ) → i < depth → getD l i 0 < 100
+
+-- the closing tag of the innermost one
+pub record Closes (s : List ℕ) (at : ℕ) (l : List ℕ) (depth r : ℕ) : Type 0 where
+  pub some : depth ≡ 0 → ⊥
+  pub shut : Shut s at (getD l (depth - 1) 0) r
+
+abbrev pub StepRead : List ℕ → (at : ℕ) → (numbers : List ℕ) → (depth : ℕ) → Step → Type 0
+StepRead s at l depth (Step.Opens n r) = Named s at n r
+StepRead s at l depth (Step.Closes r) = Closes s at l depth r
+StepRead s at l depth (Step.Wrong place) = Stuck s at (between (openIn l depth)) place
+
+-- how far a text was read: the elements that are open, and the nodes so far
+pub record Reached (s : List ℕ) (next : ℕ) (numbers : List ℕ) (depth count : ℕ) (nodes : List ℕ) : Type 0 where
+  pub to : next ≤ length s
+  pub ends : next < length s → classOf (getD s next 0) ≡ space → ⊥
+  pub goes : Goes s 0 (between []) next (between (openIn numbers depth))
+  pub numbered : Numbered numbers depth
+  pub few : depth ≤ count
+  pub filled : Filled s next count nodes
+
+-- ---- a whole text
 
 -- a text, or where it goes wrong, of the grammar itself
 abbrev pub TextRead : List ℕ → Found → Type 0

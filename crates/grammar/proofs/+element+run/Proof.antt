@@ -2,8 +2,8 @@
 -- Assumes nothing.
 use borrow.Author.Needs.{needs}
 use native.Mathlib.Omega.{arith}
-use Prim.Native.Nat.{ℕ, _+_, _-_, _*_, _<_}
-use mathlib.Core.Path.{_≡_, sym, _∙_}
+use Prim.Native.Nat.{ℕ, zero, suc, _+_, _-_, _*_, _<_, _≤_}
+use mathlib.Core.Path.{_≡_, refl, sym, _∙_}
 use mathlib.Core.List.{_∷_}
 use lib.ListN.{length}
 use Rattle.grammar.specs.declared.Reading.{Reading}
@@ -21,6 +21,7 @@ use Rattle.grammar.proofs.+element+run.Lts-run as run-lts
 use Rattle.grammar.proofs.class_at.Reads as class-at-reads
 use Rattle.grammar.proofs.close_tag.Reads as close-tag-reads
 use Rattle.grammar.proofs.open_tag.Reads as open-tag-reads
+use Rattle.grammar.proofs.shut.Reads as shut-reads
 use Rattle.grammar.proofs.skip.Reads as skip-reads
 use Rattle.grammar.proofs.+element+run.{statement}
 use Rattle.grammar.proofs.+element+run.Tie.{close}
@@ -44,23 +45,30 @@ abbrev run-below : ℕ → In 4 run-kinds.ps
 run-below t = and 4 run-kinds.ps (falls 4 run-kinds.ps _<_ μ-run t) run.Pre
 
 abbrev element-calls : ℕ → element-lts.Claims
-element-calls t = (open-tag-reads.Asked, open-tag-reads.Learnt, run-below t, run.Post, close-tag-reads.Asked, close-tag-reads.Learnt)
+element-calls t = (open-tag-reads.Asked, open-tag-reads.Learnt, run-below t, run.Post, close-tag-reads.Asked, close-tag-reads.Learnt, shut-reads.Asked, shut-reads.Learnt)
 
 abbrev run-calls : ℕ → run-lts.Claims
 run-calls t = (skip-reads.Asked, skip-reads.Learnt, class-at-reads.Asked, class-at-reads.Learnt, element-below t, element.Post)
 
+some-levels : (n : ℕ) → (n ≡ 0 → ⊥) → 1 ≤ n
+some-levels zero h = absurd (h refl)
+some-levels (suc n) h = omega arith
+
 -- the opening tag that was read
 named : (t : ℕ) (c : element-lts.After-known-told2 (element-calls t) (element-at t) element.Post) →
-    Named (c .before .before .before .before .before .args .text .now) (c .before .before .before .before .before .args .at) (c .before .number .given .0 .0) (c .before .number .given .0 .1 .0)
+    Named (c .before .before .before .before .before .before .args .text .now) (c .before .before .before .before .before .before .args .at) (c .before .number .given .0 .0) (c .before .number .given .0 .1 .0)
 named t c = rw (c .before .number .given .1) at (c .before .before .before .open-tag .ensures)
 
 -- the run inside that was read
 inside : (t : ℕ) (c : element-lts.After-known-told4 (element-calls t) (element-at t) element.Post) →
-    RunRead (c .before .before .before .before .before .before .before .before .before .before .before .before .args .text .now) (c .before .before .before .before .before .before .before .before .number .given .0 .1 .0) (c .before .before .before .run .last .1 .1 .1 .1 .0) (c .before .before .before .run .last .1 .1 .1 .0) (Reading.To (c .before .end .given .0 .0))
+    RunRead (c .before .before .before .before .before .before .before .before .before .before .before .before .before .args .text .now) (c .before .before .before .before .before .before .before .before .number .given .0 .1 .0) (c .before .before .before .run .last .1 .1 .1 .1 .0) (c .before .before .before .run .last .1 .1 .1 .0) (Reading.To (c .before .end .given .0 .0))
 inside t c = rw (c .before .end .given .1) at (c .before .before .before .run .ensures)
 
+element-returns : (t : ℕ) → element-lts.Need-returns (element-calls t) (element-at t) element.Post
+element-returns t c = c .before .before .pre .1 .1 .1 .long
+
 element-open-tag-requires : (t : ℕ) → element-lts.Need-open-tag-requires (element-calls t) (element-at t) element.Post
-element-open-tag-requires t c κs = let q = c .before .pre .1 in (q .0, q .1 .0)
+element-open-tag-requires t c κs = let q = c .before .before .pre .1 in (q .0, q .1 .0)
 
 element-enum-known-place : (t : ℕ) → element-lts.Need-enum-known-place (element-calls t) (element-at t) element.Post
 element-enum-known-place t c = search needs
@@ -69,16 +77,22 @@ element-enum-known-number : (t : ℕ) → element-lts.Need-enum-known-number (el
 element-enum-known-number t c = search needs
 
 element-element-write-nodes : (t : ℕ) → element-lts.Need-element-write-nodes (element-calls t) (element-at t) element.Post
-element-element-write-nodes t c = let q = c .before .before .before .before .before .before .pre .1 in filled-room (q .1 .1) (omega (arith, q .0 .0))
+element-element-write-nodes t c = let q = c .before .before .before .before .before .before .before .pre .1 in filled-room (q .1 .1) (omega (arith, q .0 .0))
 
 element-add-count : (t : ℕ) → element-lts.Need-add-count (element-calls t) (element-at t) element.Post
-element-add-count t c = let q = c .before .before .before .before .before .before .pre .1 in let h = filled-room (q .1 .1) (omega (arith, q .0 .0)) in omega arith
+element-add-count t c = let q = c .before .before .before .before .before .before .before .pre .1 in let h = filled-room (q .1 .1) (omega (arith, q .0 .0)) in omega arith
+
+element-sub-run : (t : ℕ) → element-lts.Need-sub-run (element-calls t) (element-at t) element.Post
+element-sub-run t c = some-levels _ (c .before .before .before .before .before .before .before .if1 .left)
 
 element-run-requires : (t : ℕ) → element-lts.Need-run-requires (element-calls t) (element-at t) element.Post
 element-run-requires t c κs =
     let n = named t (c .before .before .before) in
-    let q = c .before .before .before .before .before .before .before .before .pre in
+    let q = c .before .before .before .before .before .before .before .before .before .pre in
     (omega (arith, n .from, n .to, q .0), (n .to, (q .1 .1 .0, tag-filled _ (q .1 .1 .1) (omega (arith, q .1 .0 .0)) (n .from) (n .nodes))))
+
+element-enum-told : (t : ℕ) → element-lts.Need-enum-told (element-calls t) (element-at t) element.Post
+element-enum-told t c = search needs
 
 element-enum-known-place-2 : (t : ℕ) → element-lts.Need-enum-known-place-2 (element-calls t) (element-at t) element.Post
 element-enum-known-place-2 t c = search needs
@@ -97,27 +111,34 @@ element-close-tag-requires t c κs =
     let r = inside t c .0 in
     (r .passed .to, r .ends, named t (c .before .before .before .before .before .before .before) .small)
 
-element-returns : (t : ℕ) → element-lts.Need-returns (element-calls t) (element-at t) element.Post
-element-returns t c = rw (c .before .place .given .1) at (c .before .before .before .open-tag .ensures)
+element-shut-requires : (t : ℕ) → element-lts.Need-shut-requires (element-calls t) (element-at t) element.Post
+element-shut-requires t c κs = search needs
 
 element-returns-2 : (t : ℕ) → element-lts.Need-returns-2 (element-calls t) (element-at t) element.Post
-element-returns-2 t c =
+element-returns-2 t c = rw (c .before .place .given .1) at (c .before .before .before .open-tag .ensures)
+
+element-returns-3 : (t : ℕ) → element-lts.Need-returns-3 (element-calls t) (element-at t) element.Post
+element-returns-3 t c = rw (c .enum-told .given .1) at (c .before .before .run .ensures)
+
+element-returns-4 : (t : ℕ) → element-lts.Need-returns-4 (element-calls t) (element-at t) element.Post
+element-returns-4 t c =
     let n = named t (c .before .before .before .before .before .before .before) in
     λ stack. stuck-after (omega (arith, n .from)) (n .goes stack) ((rw (c .before .place2 .given .1) at (c .before .before .before .run .ensures)) (_ ∷ stack))
 
-element-returns-3 : (t : ℕ) → element-lts.Need-returns-3 (element-calls t) (element-at t) element.Post
-element-returns-3 t c =
-    let d = c .before in
+element-returns-5 : (t : ℕ) → element-lts.Need-returns-5 (element-calls t) (element-at t) element.Post
+element-returns-5 t c =
+    let d = c .before .before in
     let n = named t (d .before .before .before .before .before .before .before) in
     let r = inside t d in
-    element-read _ _ _ _ _ _ _ (c .close-tag .result) n (r .0) (c .close-tag .ensures)
-    (λ k e. let m = rw e at (c .close-tag .ensures) in tag-filled 0 (r .1) (r .0 .passed .to) (m .from) (m .nodes))
+    rw (c .shut .ensures)
+    (element-read _ _ _ _ _ _ _ (c .before .close-tag .result) n (r .0) (c .before .close-tag .ensures)
+    (λ k e. let m = rw e at (c .before .close-tag .ensures) in tag-filled 0 (r .1) (r .0 .passed .to) (m .from) (m .nodes)))
 
 abbrev run-Inv-loop : run-lts.InvT-loop
-run-Inv-loop text at classes nodes₀ count₀ next₀ nodes count next = PartRead text at next × Filled text next count nodes
+run-Inv-loop text at classes nodes₀ count₀ levels next₀ nodes count next = PartRead text at next × Filled text next count nodes
 
 abbrev run-μ-loop : run-lts.MeasureT-loop
-run-μ-loop text at classes nodes₀ count₀ next₀ nodes count next = length text - next
+run-μ-loop text at classes nodes₀ count₀ levels next₀ nodes count next = length text - next
 
 run-skip-requires : (t : ℕ) → run-lts.Need-skip-requires (run-calls t) (run-at t) run.Post run-Inv-loop run-μ-loop
 run-skip-requires t c κs = let q = c .before .pre .1 in (q .0, q .1 .0)
@@ -155,11 +176,17 @@ run-element-requires t c κs =
       ((k .0, k .1, λ e. d .if2 .left (d .before .class-at2 .ensures ∙ e)), (q .1 .1 .0, l .inv .1)),
     )
 
+run-enum-told : (t : ℕ) → run-lts.Need-enum-told (run-calls t) (run-at t) run.Post run-Inv-loop run-μ-loop
+run-enum-told t c = search needs
+
+run-returns-2 : (t : ℕ) → run-lts.Need-returns-2 (run-calls t) (run-at t) run.Post run-Inv-loop run-μ-loop
+run-returns-2 t c = rw (c .enum-told .given .1) at (c .before .before .element .ensures)
+
 run-enum-known-place : (t : ℕ) → run-lts.Need-enum-known-place (run-calls t) (run-at t) run.Post run-Inv-loop run-μ-loop
 run-enum-known-place t c = search needs
 
-run-returns-2 : (t : ℕ) → run-lts.Need-returns-2 (run-calls t) (run-at t) run.Post run-Inv-loop run-μ-loop
-run-returns-2 t c =
+run-returns-3 : (t : ℕ) → run-lts.Need-returns-3 (run-calls t) (run-at t) run.Post run-Inv-loop run-μ-loop
+run-returns-3 t c =
     let l = c .before .before .before .before .before .before .before .before .before .before .loop in
     let p = l .inv .0 .passed in
     λ stack. stuck-after (p .from) (p .goes stack) ((rw (c .before .place .given .1) at (c .before .before .before .element .ensures)) stack)
@@ -188,13 +215,13 @@ run-loop-again t c =
     let k = c .skip2 .ensures in
     (elements-on (l .inv .0) (e .0) k, on-filled (e .2) (k .from) (k .nodes))
 
-run-returns-3 : (t : ℕ) → run-lts.Need-returns-3 (run-calls t) (run-at t) run.Post run-Inv-loop run-μ-loop
-run-returns-3 t c =
+run-returns-4 : (t : ℕ) → run-lts.Need-returns-4 (run-calls t) (run-at t) run.Post run-Inv-loop run-μ-loop
+run-returns-4 t c =
     let l = c .before .before .before .loop in
     (record { passed = l .inv .0 .passed; ends = λ h. absurd (omega (arith, h, c .if3 .taken)) }, l .inv .1)
 
-run-returns-4 : (t : ℕ) → run-lts.Need-returns-4 (run-calls t) (run-at t) run.Post run-Inv-loop run-μ-loop
-run-returns-4 t c =
+run-returns-5 : (t : ℕ) → run-lts.Need-returns-5 (run-calls t) (run-at t) run.Post run-Inv-loop run-μ-loop
+run-returns-5 t c =
     let l = c .before .before .before .loop in
     elements-stuck (l .inv .0) (λ e. c .before .if1 .left (c .before .before .class-at .ensures ∙ e)) (c .if3 .left)
 
@@ -202,20 +229,25 @@ pub +element+run-spec : {M : Type 1} → statement M
 +element+run-spec = close μ-element μ-run (λ t. element-lts.spec (element-calls t)
     (element-at t)
     element.Post
+    (element-returns t)
     (element-open-tag-requires t)
     (element-enum-known-place t)
     (element-enum-known-number t)
     (element-element-write-nodes t)
     (element-add-count t)
+    (element-sub-run t)
     (element-run-requires t)
+    (element-enum-told t)
     (element-enum-known-place-2 t)
     (element-enum-known-end t)
     (element-element-write-nodes-2 t)
     (element-add-count-2 t)
     (element-close-tag-requires t)
-    (element-returns t)
+    (element-shut-requires t)
     (element-returns-2 t)
-    (element-returns-3 t))
+    (element-returns-3 t)
+    (element-returns-4 t)
+    (element-returns-5 t))
     λ t. run-lts.spec (run-calls t)
     (run-at t)
     run.Post
@@ -228,11 +260,13 @@ pub +element+run-spec : {M : Type 1} → statement M
     (run-class-at-requires-2 t)
     (run-returns t)
     (run-element-requires t)
-    (run-enum-known-place t)
+    (run-enum-told t)
     (run-returns-2 t)
+    (run-enum-known-place t)
+    (run-returns-3 t)
     (run-enum-known-after t)
     (run-skip-requires-2 t)
     (run-loop-less t)
     (run-loop-again t)
-    (run-returns-3 t)
     (run-returns-4 t)
+    (run-returns-5 t)

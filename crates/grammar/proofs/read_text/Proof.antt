@@ -5,25 +5,22 @@ use native.Mathlib.Omega.{arith}
 use Prim.Native.Nat.{ℕ, _+_}
 use mathlib.Core.Path.{_≡_, ap, _∙_}
 use mathlib.Core.List.{List}
+use lib.Arith.{lt-of-le-ne}
 use Rattle.blocks.specs.declared.Found.{Found}
-use Rattle.grammar.specs.Wrong.{wrongPlace}
-use Rattle.grammar.specs.Reading.{RunRead, TextRead, parseOf}
+use Rattle.grammar.specs.Reading.{RunRead}
 use Rattle.grammar.specs.declared.Reading.{Reading}
 use Rattle.grammar.specs.declared.Parse.{Parse}
-use Rattle.grammar.proofs.Decided.{answered, one-answer}
+use Rattle.grammar.proofs.Decided.{told}
 use Rattle.grammar.proofs.Filling.{filled-room, on-filled, nothing-filled, end-filled}
 use Rattle.grammar.proofs.Whole.{spaces-wrong, text-right, text-closed, text-stuck}
 use Rattle.grammar.proofs.read_text.Statement.{statement}
 use Rattle.grammar.proofs.read_text.Tie as tie
 use Rattle.grammar.proofs.read_text.Reads as reads
 use Rattle.grammar.proofs.read_text.Lts as lts
+use Rattle.grammar.proofs.read_deep.Reads as read-deep-reads
 use Rattle.grammar.proofs.run.Reads as run-reads
 use Rattle.grammar.proofs.skip.Reads as skip-reads
 use Rattle.tags.proofs.class_table.Reads as class-table-reads
-
--- what the grammar answers is what is computed
-told : (s : List ℕ) (a : Found) (k : ℕ) → TextRead s a → parseOf a k ≡ parseOf (wrongPlace s) k
-told s a k h = ap (λ (f : Found). parseOf f k) (one-answer s a (wrongPlace s) h (answered s))
 
 -- the run that was read
 passed : (c : tie.After-known-told2) →
@@ -45,14 +42,23 @@ run-requires c κs =
     let q = c .before .before .before .before .before .before .before .before .pre in
     (k .to, (c .before .before .before .before .before .before .class-table .ensures, on-filled (nothing-filled _ _ (q .0) (q .1)) (k .from) (k .nodes)))
 
+enum-told : tie.Need-enum-told
+enum-told c = search needs
+
+read-deep-requires : tie.Need-read-deep-requires
+read-deep-requires c κs =
+    let q = c .before .before .before .before .before .before .before .before .before .before .before .before .before .pre in
+    let k = c .before .before .before .before .before .before .before .before .before .skip .ensures in
+    ((q .0, rw (c .before .before .enum-told .given .1) at (c .before .before .before .before .run .ensures), k, lt-of-le-ne (k .to) (c .before .before .before .before .before .before .before .before .if1 .left)), c .before .before .before .before .before .before .before .before .before .before .before .class-table .ensures)
+
 enum-known-place : tie.Need-enum-known-place
 enum-known-place c = search needs
 
 enum-known-end : tie.Need-enum-known-end
 enum-known-end c = search needs
 
-add-t19 : tie.Need-add-t19
-add-t19 c = let p = passed (c .before) .0 .passed in omega (arith, p .to)
+add-t21 : tie.Need-add-t21
+add-t21 c = let p = passed (c .before) .0 .passed in omega (arith, p .to)
 
 returns-2 : tie.Need-returns-2
 returns-2 c =
@@ -62,15 +68,18 @@ returns-2 c =
 element-write-nodes : tie.Need-element-write-nodes
 element-write-nodes c = let p = passed (c .before) in filled-room (p .1) (p .0 .passed .to)
 
-add-t22 : tie.Need-add-t22
-add-t22 c = let p = passed (c .before) in let h = filled-room (p .1) (p .0 .passed .to) in omega arith
+add-t24 : tie.Need-add-t24
+add-t24 c = let p = passed (c .before) in let h = filled-room (p .1) (p .0 .passed .to) in omega arith
 
 returns-3 : tie.Need-returns-3
-returns-3 c =
-    (told _ (Found.At (c .before .place .given .0 .0)) _ (text-stuck (c .before .before .before .before .before .before .before .before .skip .ensures) (rw (c .before .place .given .1) at (c .before .before .before .run .ensures))), tt)
+returns-3 c = search needs
 
 returns-4 : tie.Need-returns-4
 returns-4 c =
+    (told _ (Found.At (c .before .place .given .0 .0)) _ (text-stuck (c .before .before .before .before .before .before .before .before .skip .ensures) (rw (c .before .place .given .1) at (c .before .before .before .run .ensures))), tt)
+
+returns-5 : tie.Need-returns-5
+returns-5 c =
     let d = c .before in
     let p = passed d in
     let e = end-filled (p .1) (c .if2 .left) in
@@ -85,11 +94,14 @@ read-text-spec =
     skip-requires
     returns
     run-requires
+    enum-told
+    read-deep-requires
     enum-known-place
     enum-known-end
-    add-t19
+    add-t21
     returns-2
     element-write-nodes
-    add-t22
+    add-t24
     returns-3
-    returns-4)
+    returns-4
+    returns-5)

@@ -1,0 +1,22 @@
+-- `grammar::closed` meets its contract.
+-- Assumes nothing.
+use borrow.Author.Needs.{needs}
+use Rattle.grammar.proofs.closed.Statement.{statement}
+use Rattle.grammar.proofs.closed.Tie as tie
+use Rattle.grammar.proofs.closed.Reads as reads
+use Rattle.grammar.proofs.closed.Lts as lts
+
+enum-known-closing : tie.Need-enum-known-closing
+enum-known-closing c = search needs
+
+enum-known-closing-2 : tie.Need-enum-known-closing-2
+enum-known-closing-2 c = search needs
+
+returns : tie.Need-returns
+returns c = rw (c .before .closing .given .1)
+
+returns-2 : tie.Need-returns-2
+returns-2 c = rw (c .before .closing2 .given .1)
+
+pub closed-spec : {M : Type 1} → statement M
+closed-spec = tie.close (tie.spec enum-known-closing enum-known-closing-2 returns returns-2)
