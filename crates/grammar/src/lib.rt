@@ -5,6 +5,7 @@ use tags::GREATER;
 use tags::LESS;
 use tags::SLASH;
 use tags::SPACE;
+use tags::class_in;
 use tags::class_table;
 ghost use mathlib.Core.Path.{_≡_};
 ghost use Prim.Native.Nat.{_+_, _*_, _<_, _≤_};
@@ -13,14 +14,6 @@ ghost use Rattle.tags.specs.Classes.{classOf, IsTable};
 ghost use Rattle.tags.specs.Tags.{nodesIn};
 ghost use Rattle.grammar.specs.Wrong.{wrongPlace};
 ghost use Rattle.grammar.specs.Reading.{classAt, IsByte, Skipped, CloseAt, Opens, Filled, RunRead, ElementRead, OpenRead, CloseRead, shutBy, openedBy, closedBy, Numbered, StepRead, parseOf, Listed};
-
-// The class of a byte, from a table that is lent.
-fn class_in(b: u8, classes: &[u8; 256]) -> u8
-    requires { ⌜ IsTable (now classes) ⌝ }
-    ensures { λ r. ⌜ r ≡ classOf b ⌝ }
-{
-    classes[b as usize]
-}
 
 // No byte: past the end.
 const NONE: u8 = 6;

@@ -282,18 +282,27 @@ const CLASSES: [u8; 256] = [
     OTHER,
 ];
 
-// The class of a byte, from the table.
-pub fn class_of(b: u8) -> u8
-    ensures { λ r. ⌜ r ≡ classOf b ⌝ }
-{
-    CLASSES[b as usize]
-}
-
 // The table, to be lent.
 pub fn class_table() -> [u8; 256]
     ensures { λ r. ⌜ IsTable r ⌝ }
 {
     CLASSES
+}
+
+// The class of a byte, from a table that is lent.
+pub fn class_in(b: u8, classes: &[u8; 256]) -> u8
+    requires { ⌜ IsTable (now classes) ⌝ }
+    ensures { λ r. ⌜ r ≡ classOf b ⌝ }
+{
+    classes[b as usize]
+}
+
+// The class of a byte.
+fn class_of(b: u8) -> u8
+    ensures { λ r. ⌜ r ≡ classOf b ⌝ }
+{
+    let classes = class_table();
+    class_in(b, &classes)
 }
 
 // What a `<` stands before: an opening tag with its number, or a closing tag.

@@ -5,7 +5,7 @@ use Rattle.grammar.proofs.class_at.Statement.{statement}
 use Rattle.grammar.proofs.class_at.Tie as tie
 use Rattle.grammar.proofs.class_at.Reads as reads
 use Rattle.grammar.proofs.class_at.Lts as lts
-use Rattle.grammar.proofs.class_in.Reads as class-in-reads
+use Rattle.tags.proofs.class_in.Reads as class-in-reads
 
 shared-slice-read-class-in : tie.Need-shared-slice-read-class-in
 shared-slice-read-class-in c = search needs

@@ -15,7 +15,7 @@ use Rattle.grammar.proofs.skip.Statement.{statement}
 use Rattle.grammar.proofs.skip.Tie as tie
 use Rattle.grammar.proofs.skip.Reads as reads
 use Rattle.grammar.proofs.skip.Lts as lts
-use Rattle.grammar.proofs.class_in.Reads as class-in-reads
+use Rattle.tags.proofs.class_in.Reads as class-in-reads
 
 abbrev Inv-loop : tie.InvT-loop
 Inv-loop text at classes next₀ next = (at ≤ next) × (next ≤ length text) × ((stack : List ℕ) → Goes text at (between stack) next (between stack)) × ((i : ℕ) → at ≤ i → i < next → classOf (getD text i 0) ≡ 0) × (nodesIn (drop at text) ≡ nodesIn (drop next text))
