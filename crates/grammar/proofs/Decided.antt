@@ -4,21 +4,20 @@ use Prim.Native.Nat.{ℕ, zero, suc, _+_, _<_, _≤_}
 use native.Mathlib.Omega.{arith}
 use native.Mathlib.Numerals.{add-one}
 use mathlib.Core.Path.{_≡_, refl, sym, ap, _∙_}
-use mathlib.Core.Bool.{Bool, true, false, not, _&&_}
+use mathlib.Core.Bool.{Bool, true, false, not}
 use mathlib.Core.List.{List, [], _∷_, _++_}
-use lib.Dec.{eqb, ltb}
+use lib.Dec.{eqb}
 use lib.Arith.{lt-of-le-ne}
 use lib.ListN.{length, getD, take, drop, take-append-drop, length-append}
 use lib.Seq.{take-suc, take-length, getD-append-add}
-use borrow.Author.Tests.{eqb-true, eqb-false, eq-eqb, not-true, not-false, lt-ltb, le-ltb, ltb-true, ltb-false}
+use borrow.Author.Tests.{eqb-true, eqb-false, eq-eqb, not-true, not-false, lt-ltb, le-ltb}
 use Rattle.blocks.specs.declared.Found.{Found}
-use Rattle.blocks.specs.Search.{lowestFrom, lowest}
-use Rattle.blocks.proofs.Laws.{Lowest, lowest-at, lowest-nothing}
+use Rattle.blocks.proofs.Laws.{lowest-at, lowest-nothing}
 use Rattle.refusal.proofs.Passed.{clash, and-is-true}
 use Rattle.tags.specs.Classes.{classOf}
 use Rattle.grammar.specs.Grammar.{Elements, empty, element, Spaces, none, more, Writes, blank, tagged, Text, OneOrMore, Begins, WrongAt, openTag, closeTag}
-use Rattle.grammar.specs.Pushdown.{Configuration, between, tag, one, two, closing, dead, step, steps, Alive}
-use Rattle.grammar.specs.Wrong.{alive, closed, onlySpaces, begins, isText, either, wrongAt, wrongPlace}
+use Rattle.grammar.specs.Pushdown.{Configuration, between, tag, one, two, closing, dead, step, steps, alive, Alive}
+use Rattle.grammar.specs.Wrong.{closed, onlySpaces, begins, isText, wrongAt, wrongPlace}
 use Rattle.grammar.specs.Reading.{TextRead, parseOf}
 use Rattle.grammar.proofs.PushdownLaws.{steps-append, text-steps, alive-begins, between-writes, dead-begins}
 use Rattle.grammar.proofs.Once.{wrong-once}
@@ -64,12 +63,7 @@ wrong-there s p q to g alive stop early =
 -- ---- bytes that begin a text
 
 alive-true : (q : Configuration) → alive q ≡ true → Alive q
-alive-true (between stack) e = tt
-alive-true (tag stack) e = tt
-alive-true (one d stack) e = tt
-alive-true (two n stack) e = tt
-alive-true (closing rest stack) e = tt
-alive-true dead e = clash (cc)
+alive-true q e = rw e tt
 
 alive-false : (q : Configuration) → alive q ≡ false → q ≡ dead
 alive-false (between stack) e = clash (cc)

@@ -1,20 +1,19 @@
 -- Reading with the numbers of the open elements in a list: one tag more, and the end.
 -- Assumes nothing.
-use Prim.Native.Nat.{ℕ, zero, suc, _+_, _-_, _*_, _<_, _≤_}
+use Prim.Native.Nat.{ℕ, zero, suc, _+_, _-_, _<_, _≤_}
 use native.Mathlib.Omega.{arith}
 use native.Mathlib.Numerals.{add-one}
-use mathlib.Core.Path.{_≡_, refl, sym, ap, _∙_}
+use mathlib.Core.Path.{_≡_, refl, ap, _∙_}
 use mathlib.Core.Bool.{Bool, true, false}
 use mathlib.Core.List.{List, [], _∷_}
 use lib.Dec.{eqb}
 use lib.Arith.{lt-of-le-ne}
-use lib.ListN.{length, getD, take, drop, set, length-set}
+use lib.ListN.{length, getD, set, length-set}
 use borrow.Author.Tests.{eqb-true, eqb-false}
-use Rattle.tags.specs.Classes.{classOf}
 use Rattle.tags.proofs.ClassLaws.{class-slash}
 use Rattle.grammar.specs.Grammar.{Elements, Text, WrongAt}
 use Rattle.grammar.specs.Pushdown.{Configuration, between, Goes}
-use Rattle.grammar.specs.Reading.{classAt, Stuck, Skipped, CloseAt, Filled, Named, Shut, CloseRead, openIn, Numbered, Closes, StepRead, closedBy, openedBy, OpenRead, Reached}
+use Rattle.grammar.specs.Reading.{classAt, Stuck, Skipped, CloseAt, Named, CloseRead, openIn, Closes, StepRead, closedBy, openedBy, OpenRead, Reached}
 use Rattle.grammar.specs.declared.Opening.{Opening}
 use Rattle.grammar.specs.declared.Closing.{Closing}
 use Rattle.grammar.proofs.Going.{trans, stuck-after, class-in, class-of-at, between-dead, root-closed}

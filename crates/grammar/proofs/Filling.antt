@@ -1,14 +1,15 @@
 -- The list of nodes after one tag more, and past what is no tag.
 -- Assumes nothing.
-use Prim.Native.Nat.{ℕ, zero, suc, _+_, _*_, _<_, _≤_}
+use Prim.Native.Nat.{ℕ, zero, suc, _+_, _<_, _≤_}
 use native.Mathlib.Omega.{arith}
 use native.Mathlib.Numerals.{add-one}
 use mathlib.Core.Path.{_≡_, refl, sym, ap, _∙_}
 use mathlib.Core.List.{List, [], _∷_, _++_}
 use lib.ListN.{length, getD, take, drop, set, length-drop, length-set}
 use lib.Seq.{take-suc, take-all}
+use Rattle.blocks.proofs.Stores.{first}
 use Rattle.tags.specs.Tags.{nodesIn}
-use Rattle.tags.proofs.Listed.{first, nodes-end}
+use Rattle.tags.proofs.Listed.{nodes-end}
 use Rattle.grammar.specs.Reading.{Filled}
 
 take-set : (l : List ℕ) (i v : ℕ) → i < length l → take (suc i) (set l i v) ≡ take i l ++ (v ∷ [])

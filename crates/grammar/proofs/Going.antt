@@ -2,20 +2,19 @@
 -- Assumes nothing.
 use Prim.Native.Nat.{ℕ, zero, suc, _+_, _-_, _*_, _/_, _%_, _<_, _≤_}
 use native.Mathlib.Omega.{arith}
-use native.Mathlib.Numerals.{add-one}
-use mathlib.Core.Path.{_≡_, refl, sym, ap, _∙_}
+use mathlib.Core.Path.{_≡_, refl, ap, _∙_}
 use mathlib.Core.Bool.{Bool, true, false, not}
 use mathlib.Core.List.{List, [], _∷_, _++_}
 use lib.Dec.{eqb, ltb}
-use lib.ListN.{length, getD, take}
+use lib.ListN.{length, getD}
 use lib.Arith.{lt-of-le-ne}
-use borrow.Author.Tests.{eq-eqb, ne-eqb, lt-ltb, le-ltb, ltb-true, ltb-false, eqb-true, eqb-false, not-true, not-false}
+use borrow.Author.Tests.{eq-eqb, ne-eqb, lt-ltb, le-ltb, ltb-true, eqb-true, eqb-false, not-true, not-false}
 use Rattle.tags.specs.Classes.{classOf, pick}
-use Rattle.grammar.specs.Grammar.{written, digitsIf}
-use Rattle.grammar.specs.Pushdown.{Configuration, between, tag, one, two, closing, dead, step, steps, byClass, closingOn, stateIf, Goes, here, on, Alive}
+use Rattle.grammar.specs.Grammar.{written}
+use Rattle.grammar.specs.Pushdown.{Configuration, between, tag, one, two, closing, dead, step, byClass, closingOn, Goes, here, on}
 use Rattle.grammar.proofs.PushdownLaws.{step-space, step-less, step-digit, step-second, step-one-end, step-two-end, step-slash, step-closing}
 use Rattle.tags.proofs.ClassLaws.{class-digit, class-less, class-slash, class-greater}
-use Rattle.grammar.specs.Reading.{classAt, IsByte, Stuck, Skipped, CloseAt, Passed, PartRead, RunPassed, Filled, ElementRead, RunRead, Named, Shut, CloseRead, shutBy}
+use Rattle.grammar.specs.Reading.{classAt, IsByte, Stuck, Skipped, CloseAt, Passed, PartRead, RunPassed, Filled, ElementRead, Named, Shut, CloseRead, shutBy}
 use Rattle.grammar.specs.declared.Closing.{Closing}
 use Rattle.tags.proofs.Listed.{short-nodes, long-nodes, short-close-nodes, long-close-nodes}
 

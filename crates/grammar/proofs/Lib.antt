@@ -5,3 +5,4 @@ pub mod Going
 pub mod Filling
 pub mod Whole
 pub mod Deep
+pub mod Examples

@@ -1,15 +1,15 @@
--- The machine reads exactly the texts, and is alive exactly where a continuation could be right.
+-- The pushdown automaton reads exactly the texts, and is alive exactly where a continuation could be right.
 -- Assumes nothing.
 use Prim.Native.Nat.{ℕ, zero, suc, _+_, _-_, _*_, _/_, _%_, _<_, _≤_}
 use native.Mathlib.Omega.{arith}
 use mathlib.Core.Path.{_≡_, refl, sym, ap, _∙_}
-use mathlib.Core.Bool.{Bool, true, false, _&&_, _||_}
+use mathlib.Core.Bool.{Bool, true, false}
 use mathlib.Core.List.{List, [], _∷_, _++_, append-assoc, append-nil}
-use lib.Dec.{eqb, ltb, leb}
-use borrow.Author.Tests.{eq-eqb, ne-eqb, ltb-true, ltb-false, leb-true, eqb-true, eqb-false, lt-ltb, le-ltb}
+use lib.Dec.{eqb, ltb}
+use borrow.Author.Tests.{eq-eqb, ne-eqb, ltb-true, ltb-false, eqb-true, eqb-false, lt-ltb, le-ltb}
 use Rattle.tags.specs.Classes.{classOf}
 use Rattle.tags.proofs.ClassLaws.{digit-class, class-digit, class-less, class-slash, class-greater}
-use Rattle.grammar.specs.Grammar.{Elements, empty, element, Spaces, none, more, digitsIf, written, openTag, closeTag, Writes, blank, tagged, Text, OneOrMore, Begins}
+use Rattle.grammar.specs.Grammar.{Elements, empty, element, Spaces, none, more, digitsIf, written, openTag, closeTag, Writes, blank, tagged, OneOrMore, Begins}
 use Rattle.grammar.specs.Pushdown.{Configuration, between, tag, one, two, closing, dead, step, steps, byClass, closed, closingOn, stateIf, Alive}
 
 -- ---- a run's text leads from between to between
@@ -97,7 +97,7 @@ pub text-steps : {s : List ℕ} {r : Elements} → Writes s r → steps (between
 unfolding steps
 text-steps {s} w = rw (← append-nil s) (run-steps [] [] w)
 
--- ---- a prefix that the machine reads begins a text
+-- ---- a prefix that the automaton reads begins a text
 
 -- one space more
 space-after : (b : ℕ) {x : List ℕ} {r : Elements} → classOf b ≡ 0 → Writes x r → Writes (x ++ (b ∷ [])) r
@@ -263,11 +263,11 @@ begins-alive p dead h a = absurd a
 start : Reached [] (between [])
 start = root (blank none)
 
--- the machine is alive after p: p begins a text
+-- the automaton is alive after p: p begins a text
 pub alive-begins : (p : List ℕ) → Alive (steps (between []) p) → Begins p
 alive-begins p a = begins-alive p (steps (between []) p) (reached-steps [] (between []) p start) a
 
--- it is between tags with empty open: p is a run's text
+-- it is between tags with nothing open: p is a run's text
 pub between-writes : (p : List ℕ) → steps (between []) p ≡ between [] → (r : Elements) × Writes p r
 between-writes p e = go (rw e at (reached-steps [] (between []) p start))
   where

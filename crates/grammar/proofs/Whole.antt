@@ -1,25 +1,21 @@
 -- From places to whole texts.
 -- Assumes nothing.
-use Prim.Native.Nat.{ℕ, zero, suc, _+_, _<_, _≤_}
+use Prim.Native.Nat.{ℕ, zero, suc, _+_, _<_}
 use native.Mathlib.Omega.{arith}
-use native.Mathlib.Numerals.{add-one}
 use mathlib.Core.Path.{_≡_, refl, sym, ap, _∙_}
-use mathlib.Core.Bool.{Bool, true, false}
-use mathlib.Core.List.{List, [], _∷_, _++_}
-use lib.Dec.{eqb}
-use lib.ListN.{length, getD, take, drop, take-append-drop, length-append}
-use lib.Seq.{take-suc, take-length, getD-append-add}
+use mathlib.Core.List.{List, []}
+use lib.ListN.{length, getD, take}
+use lib.Seq.{take-length}
 use lib.Arith.{lt-of-le-ne}
-use borrow.Author.Tests.{eqb-true, eqb-false}
 use Rattle.tags.specs.Classes.{classOf}
-use Rattle.grammar.specs.Grammar.{Elements, empty, element, Spaces, none, more, openTag, closeTag, Writes, blank, tagged, Text, OneOrMore, Begins, WrongAt}
-use Rattle.grammar.specs.Pushdown.{Configuration, between, tag, dead, step, steps, Goes, here, on, Alive}
-use Rattle.grammar.proofs.PushdownLaws.{steps-append, text-steps, alive-begins, between-writes, dead-begins}
+use Rattle.grammar.specs.Grammar.{Elements, empty, element, Spaces, none, more, Writes, blank, Text, OneOrMore, WrongAt}
+use Rattle.grammar.specs.Pushdown.{Configuration, between, steps, Goes, here, on}
+use Rattle.grammar.proofs.PushdownLaws.{alive-begins, between-writes}
 use Rattle.grammar.proofs.Decided.{next-steps, wrong-there, less-in}
-use Rattle.grammar.specs.Reading.{Stuck, Skipped, CloseAt, Passed, RunPassed, TextRead}
+use Rattle.grammar.specs.Reading.{Stuck, Skipped, RunPassed}
 use Rattle.grammar.proofs.Going.{trans, stuck-after, root-closed}
 
--- where the machine has got to is what it makes of the bytes before
+-- where the automaton has got to is what it makes of the bytes before
 pub goes-steps :
     {s : List ℕ} {a b : ℕ} {q r : Configuration} → Goes s a q b r → steps (between []) (take a s) ≡ q → steps (between []) (take b s) ≡ r
 goes-steps here e = e
@@ -29,7 +25,7 @@ from-start : {s : List ℕ} {b : ℕ} {r : Configuration} → Goes s 0 (between 
 unfolding steps
 from-start g = goes-steps g refl
 
--- the machine is stuck: the text is wrong there
+-- the automaton is stuck: the text is wrong there
 pub stuck-wrong : {s : List ℕ} {p : ℕ} → Stuck s 0 (between []) p → WrongAt s p
 stuck-wrong {s} {p} h = wrong-there s p (h .state) (h .to) (from-start (h .goes)) (h .alive) (h .stop) (h .early)
 

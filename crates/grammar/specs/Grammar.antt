@@ -1,5 +1,6 @@
--- Document 02, W6: element text. "A text is a run of one or more elements."
-use Prim.Native.Nat.{ℕ, zero, suc, _+_, _*_, _/_, _%_, _<_, _≤_}
+-- The grammar of element texts, and the tree of a text. The quotations are of document 02, W6.
+-- Interface: `Elements`, `Writes`, `Text`, `Begins`, `WrongAt`, `treeOf`, `elementsIn`, `withoutSpaces`.
+use Prim.Native.Nat.{ℕ, zero, suc, _+_, _/_, _%_, _<_, _≤_}
 use mathlib.Core.Path.{_≡_}
 use mathlib.Core.Bool.{Bool, true, false}
 use mathlib.Core.List.{List, [], _∷_, _++_}
@@ -8,7 +9,7 @@ use lib.ListN.{length, take}
 use Rattle.model.specs.Trees.{Tree, leaf, node}
 use Rattle.tags.specs.Classes.{classOf, space}
 
--- a run of elements: empty; or an element, of a number and a run inside it, and the run after it
+-- a run of elements: it is empty; or an element, of a number and a run inside it, and the run after it
 pub data Elements : Type 0 where
   empty : Elements
   element : (number : ℕ) (inside after : Elements) → Elements

@@ -1,14 +1,15 @@
--- A text read byte by byte, with the numbers of the open elements, innermost first. The code follows it; what it has to do with the
--- grammar is in proofs/PushdownLaws.
-use Prim.Native.Nat.{ℕ, zero, suc, _+_, _-_, _*_, _<_, _≤_}
-use mathlib.Core.Path.{_≡_}
+-- A text read byte by byte by a pushdown automaton: its stack has the numbers of the open elements, innermost first. The code follows it; that it
+-- reads exactly the texts of the grammar is proofs/PushdownLaws.
+-- Interface: `Configuration`, `step`, `steps`, `Goes`, `alive`.
+use Prim.Native.Nat.{ℕ, zero, suc, _+_, _-_, _*_, _<_}
 use mathlib.Core.Bool.{Bool, true, false}
 use mathlib.Core.List.{List, [], _∷_, _++_}
-use lib.Dec.{eqb}
+use lib.Dec.{T, eqb}
 use lib.ListN.{length, getD}
 use Rattle.tags.specs.Classes.{classOf}
 use Rattle.grammar.specs.Grammar.{written}
 
+-- what the automaton is in the midst of, and its stack
 pub data Configuration : Type 0 where
   -- outside tags
   between : (stack : List ℕ) → Configuration
@@ -62,10 +63,14 @@ pub data Goes (s : List ℕ) : ℕ → Configuration → ℕ → Configuration �
   here : {at : ℕ} {q : Configuration} → Goes s at q at q
   on : {at to : ℕ} {q r : Configuration} → at < length s → Goes s (at + 1) (step q (getD s at 0)) to r → Goes s at q to r
 
+-- something could follow
+abbrev pub alive : Configuration → Bool
+alive (between stack) = true
+alive (tag stack) = true
+alive (one d stack) = true
+alive (two n stack) = true
+alive (closing rest stack) = true
+alive dead = false
+
 abbrev pub Alive : Configuration → Type 0
-Alive (between stack) = Unit
-Alive (tag stack) = Unit
-Alive (one d stack) = Unit
-Alive (two n stack) = Unit
-Alive (closing rest stack) = Unit
-Alive dead = ⊥
+Alive q = T (alive q)

@@ -9,16 +9,7 @@ use lib.ListN.{length, take}
 use Rattle.blocks.specs.Search.{lowest}
 use Rattle.blocks.specs.declared.Found.{Found}
 use Rattle.tags.specs.Classes.{classOf, space}
-use Rattle.grammar.specs.Pushdown.{Configuration, between, tag, one, two, closing, dead, steps}
-
--- something could follow
-abbrev pub alive : Configuration → Bool
-alive (between stack) = true
-alive (tag stack) = true
-alive (one d stack) = true
-alive (two n stack) = true
-alive (closing rest stack) = true
-alive dead = false
+use Rattle.grammar.specs.Pushdown.{Configuration, between, tag, one, two, closing, dead, steps, alive}
 
 -- nothing is open
 abbrev pub closed : Configuration → Bool

@@ -10,7 +10,7 @@ use tags::class_table;
 ghost use mathlib.Core.Path.{_≡_};
 ghost use Prim.Native.Nat.{_+_, _*_, _<_, _≤_};
 ghost use lib.ListN.{length, getD};
-ghost use Rattle.tags.specs.Classes.{classOf, IsTable};
+ghost use Rattle.tags.specs.Classes.{IsTable};
 ghost use Rattle.tags.specs.Tags.{nodesIn};
 ghost use Rattle.grammar.specs.Wrong.{wrongPlace};
 ghost use Rattle.grammar.specs.Reading.{classAt, IsByte, Skipped, CloseAt, Opens, Filled, RunRead, ElementRead, OpenRead, CloseRead, shutBy, openedBy, closedBy, Numbered, StepRead, parseOf, Listed};

@@ -3,7 +3,7 @@
 use Prim.Native.Nat.{ℕ, _+_, _*_, _<_, _≤_}
 use native.Mathlib.Omega.{arith}
 use mathlib.Core.Path.{_≡_, refl, sym, ap, _∙_}
-use mathlib.Core.Bool.{Bool, true, false}
+use mathlib.Core.Bool.{true, false}
 use mathlib.Core.List.{List}
 use lib.Dec.{ltb}
 use lib.ListN.{length}
@@ -13,7 +13,7 @@ use Rattle.tree.specs.Payload.{payloadOf, treeFile}
 use Rattle.blocks.specs.Search.{lowest}
 use Rattle.blocks.specs.declared.Found.{Found}
 use Rattle.relation.specs.Sets.{member}
-use Rattle.model.specs.Trees.{Tree, size}
+use Rattle.model.specs.Trees.{size}
 use Rattle.model.specs.declared.Signature.{Signature}
 use Rattle.refusal.specs.Checks.{refused, refuseIf, refuseAt, _andThen_}
 use Rattle.refusal.specs.declared.Check.{Check}
@@ -31,7 +31,7 @@ use Rattle.grammar.specs.Wrong.{wrongPlace}
 use Rattle.grammar.specs.Reading.{parseOf}
 use Rattle.grammar.specs.declared.Parse.{Parse}
 use Rattle.grammar.proofs.Decided.{answered, one-answer}
-use Rattle.markup.specs.Checks.{elementsOf, textTree, textCheck, tagCheck, sizeCheck, treeCheck, Signed}
+use Rattle.markup.specs.Checks.{textTree, textCheck, tagCheck, sizeCheck, treeCheck, Signed}
 use Rattle.block_writer.specs.Written.{roomCheck, filled, filledAfter}
 use Rattle.block_writer.specs.declared.Written.{Written}
 use Rattle.markup.specs.Written.{textFile, markupCheck, markupFor, refusedBy}

@@ -1,6 +1,6 @@
 -- The laws of document 02's W6. The quotations are its sentences.
 -- Assumes nothing.
-use Prim.Native.Nat.{ℕ, _+_, _*_, _<_, _≤_}
+use Prim.Native.Nat.{ℕ, _+_, _*_}
 use native.Mathlib.Omega.{arith}
 use mathlib.Core.Path.{_≡_, sym, ap, _∙_}
 use mathlib.Core.Logic.{_↔_}
@@ -20,9 +20,9 @@ use Rattle.block_writer.specs.declared.Written.{Written}
 use Rattle.membership.specs.Judged.{signatureOf}
 use Rattle.grammar.specs.Grammar.{Elements, Text, WrongAt, treeOf, elementsIn, withoutSpaces}
 use Rattle.grammar.specs.Wrong.{wrongPlace}
-use Rattle.grammar.proofs.Decided.{answered, one-answer}
+use Rattle.grammar.proofs.Decided.{answered}
 use Rattle.markup.specs.Written.{markupOf}
-use Rattle.markup.specs.Promise.{Unchecked, TextWritten}
+use Rattle.markup.specs.Promise.{Unchecked}
 use Rattle.markup.proofs.Unambiguous.{unambiguous, same-run}
 use Rattle.markup.proofs.Heights.{size-elements}
 use Rattle.markup.proofs.Checked.{text-wrong, text-nothing}

@@ -10,10 +10,11 @@ use lib.Dec.{eqb}
 use lib.ListN.{length, getD, drop, length-drop}
 use lib.Arith.{lt-of-le-ne}
 use borrow.Author.Tests.{not-false, eqb-true, eqb-false}
+use Rattle.blocks.proofs.Stores.{first}
 use Rattle.blocks.specs.Search.{lowest}
 use Rattle.blocks.proofs.Laws.{lowest-nothing, find-nothing}
 use Rattle.relation.specs.Sets.{member}
-use Rattle.model.specs.Trees.{Tree, leaf, node, size}
+use Rattle.model.specs.Trees.{size}
 use Rattle.model.specs.declared.Signature.{Signature}
 use Rattle.refusal.specs.Checks.{_andThen_, refuseIf, refuseAt}
 use Rattle.refusal.specs.declared.Check.the-variants.{Passed}
@@ -29,7 +30,7 @@ use Rattle.markup.proofs.Unambiguous.{tagsOf, text-tags, text-nodes}
 use Rattle.markup.specs.Checks.{tagCheck, Signed}
 use Rattle.tags.specs.declared.Tag.{Tag}
 use Rattle.tags.specs.declared.Tag.the-variants.{Opens as opens, Closes as closes}
-use Rattle.tags.proofs.Listed.{from-here, first}
+use Rattle.tags.proofs.Listed.{from-here}
 
 -- each opening tag is of a branch symbol
 Fine : ℕ → List Tag → Type 0

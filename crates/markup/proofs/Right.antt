@@ -1,21 +1,17 @@
 -- Document 02's promises of W6 hold of what is written.
 -- Assumes nothing.
-use Prim.Native.Nat.{ℕ, _+_, _<_, _≤_}
+use Prim.Native.Nat.{ℕ, _≤_}
 use native.Mathlib.Omega.{arith}
 use mathlib.Core.Path.{_≡_, refl, sym, ap, subst, _∙_}
-use mathlib.Core.Bool.{Bool, true, false}
 use mathlib.Core.List.{List, _++_}
 use lib.Dec.{ltb}
 use lib.ListN.{length, drop}
 use borrow.Author.Tests.{le-ltb, ltb-false}
 use Rattle.blocks.specs.Blocks.{content}
-use Rattle.relation.specs.Sets.{member}
-use Rattle.model.specs.Trees.{Tree, size, height}
-use Rattle.model.specs.Counting.{Over}
+use Rattle.model.specs.Trees.{size, height}
 use Rattle.model.specs.declared.Signature.{Signature}
-use Rattle.refusal.specs.Checks.{refused, refuseIf, refuseAt, _andThen_}
+use Rattle.refusal.specs.Checks.{refused, refuseIf, _andThen_}
 use Rattle.refusal.specs.Numbers.{numberOf}
-use Rattle.refusal.specs.declared.Check.{Check}
 use Rattle.refusal.specs.declared.Check.the-variants.{Passed, Refused}
 use Rattle.refusal.specs.declared.Fault.{Fault}
 use Rattle.refusal.specs.declared.Refusal.{Refusal}
@@ -26,18 +22,16 @@ use Rattle.automaton.specs.declared.file.Parsed.{Parsed}
 use Rattle.transitions.specs.Transitions.{automatonOf}
 use Rattle.transitions.proofs.Meaning.{file-symbols}
 use Rattle.nodes.specs.Nodes.{heightCheck, nodesCheck}
-use Rattle.nodes.specs.Preorder.{preorder, alphabet, Writes}
+use Rattle.nodes.specs.Preorder.{preorder, Writes}
 use Rattle.nodes.proofs.Laws.{low-next, writes}
 use Rattle.tree.specs.Payload.{treeFile}
-use Rattle.tree_writer.specs.ReadsBack.{ReadsBack}
 use Rattle.tree_writer.proofs.Reading.{reads-back}
-use Rattle.block_writer.specs.Written.{roomCheck, Filled, filled, filledAfter}
+use Rattle.block_writer.specs.Written.{roomCheck, Filled, filled}
 use Rattle.block_writer.specs.declared.Written.{Written}
 use Rattle.block_writer.proofs.Answers.{room-passed, room-enough, after-bytes, after-kept}
 use Rattle.membership.specs.Judged.{signatureOf}
 use Rattle.tags.specs.Tags.{nodesIn}
-use Rattle.grammar.specs.Grammar.{Elements, Text, WrongAt, treeOf}
-use Rattle.grammar.specs.Wrong.{wrongPlace}
+use Rattle.grammar.specs.Grammar.{Elements, Text, treeOf}
 use Rattle.markup.specs.Checks.{textTree, textCheck, tagCheck, sizeCheck, treeCheck, Signed}
 use Rattle.markup.specs.Written.{textFile, markupCheck, markupFor, markupOf}
 use Rattle.markup.specs.Promise.{Unchecked, TextWritten, Promise}

@@ -1,23 +1,22 @@
 -- A text has one list of elements, the same as without its spaces; its tree's nodes are those of its tags.
 -- Assumes nothing.
-use Prim.Native.Nat.{ℕ, zero, suc, _+_, _-_, _*_, _/_, _%_, _<_, _≤_}
+use Prim.Native.Nat.{ℕ, zero, suc, _+_, _/_, _%_, _<_}
 use native.Mathlib.Omega.{arith}
 use mathlib.Core.Path.{_≡_, refl, sym, ap, _∙_}
 use mathlib.Core.Bool.{Bool, true, false}
 use mathlib.Core.List.{List, [], _∷_, _++_, append-assoc, append-nil}
-use lib.Dec.{eqb, ltb}
+use lib.Dec.{ltb}
 use lib.ListN.{getD}
-use borrow.Author.Tests.{eq-eqb, ne-eqb, ltb-true, ltb-false}
+use borrow.Author.Tests.{ne-eqb, ltb-true}
 use Rattle.tags.specs.Classes.{classOf}
-use Rattle.grammar.specs.Grammar.{Elements, empty, element, Spaces, none, more, digitsIf, written, openTag, closeTag, Writes, blank, tagged, Text, unlessSpace, withoutSpaces, treeOf}
-use Rattle.model.specs.Trees.{Tree, leaf, node}
+use Rattle.grammar.specs.Grammar.{Elements, empty, element, Spaces, none, more, digitsIf, written, openTag, closeTag, Writes, blank, tagged, unlessSpace, withoutSpaces, treeOf}
 use Rattle.nodes.specs.Preorder.{preorder}
 use Rattle.tags.specs.Tags.{tagBefore, tagsIn, nodesOf, nodesIn}
 use Rattle.tags.specs.declared.Tag.{Tag}
 use Rattle.tags.specs.declared.Tag.the-variants.{Opens as opens, Closes as closes}
 use Rattle.tags.proofs.ClassLaws.{digit-class, space-less}
 use Rattle.tags.proofs.Listed.{opens-short, opens-two, closes-is}
-use Rattle.markup.specs.Checks.{grow, runsOf, firstRun, elementsOf}
+use Rattle.markup.specs.Checks.{grow, runsOf, elementsOf}
 
 -- ---- the tags of a run's text
 

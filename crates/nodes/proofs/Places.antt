@@ -23,7 +23,8 @@ use Rattle.refusal.specs.declared.Fault.{Fault}
 use Rattle.refusal.proofs.Passed.{clash}
 use Rattle.nodes.specs.Preorder.{preorder, Shaped}
 use Rattle.nodes.specs.Nodes.{opened, partsFrom, shapeCheck, Depth, Next, Deep, onward, depthOf, refuseDeep, heightCheck}
-use Rattle.nodes.proofs.Standing.{size-preorder, first}
+use Rattle.nodes.proofs.Standing.{size-preorder}
+use Rattle.blocks.proofs.Stores.{first}
 use Rattle.nodes.proofs.Laws.{Planted, none, more, leaf-planted, node-planted, parts-tree, one, low}
 
 -- ---- line 11

@@ -2,12 +2,12 @@
 -- Assumes nothing.
 use Prim.Native.Nat.{ℕ, suc, _+_, _<_}
 use native.Mathlib.Omega.{arith}
-use native.Mathlib.Numerals.{add-one}
 use mathlib.Core.Path.{_≡_, refl, sym, ap, _∙_}
 use mathlib.Core.Bool.{true, false}
 use mathlib.Core.List.{List, _∷_, _++_, append-assoc, append-cancel-left}
-use lib.ListN.{length, getD, drop, length-append, length-drop}
-use lib.Seq.{drop-cons, drop-drop, drop-at}
+use lib.ListN.{length, getD, drop, length-append}
+use lib.Seq.{drop-drop, drop-at}
+use Rattle.blocks.proofs.Stores.{first}
 use Rattle.relation.specs.Sets.{member}
 use Rattle.model.specs.Trees.{Tree, leaf, node, size}
 use Rattle.nodes.specs.Preorder.{preorder, Shaped, Stands, leafAt, nodeAt}
@@ -37,15 +37,6 @@ unfolding preorder
 size-preorder (leaf σ) = refl
 size-preorder (node σ l r) =
     ap suc (length-append (preorder l) (preorder r) ∙ cc (size-preorder l, size-preorder r))
-
--- a list from a node on: its first symbol, and what follows
-pub first :
-    (s : List ℕ) (at σ : ℕ) (rest : List ℕ) → drop at s ≡ σ ∷ rest →
-    (at < length s) × (getD s at 0 ≡ σ) × (drop (at + 1) s ≡ rest)
-first s at σ rest e =
-    let h : at < length s = omega (arith, sym (length-drop at s) ∙ ap length e) in
-    let c = drop-cons s at 0 h in
-    (h, (cc), rw add-one (cc))
 
 -- a tree that begins what follows a node stands there
 pub stands :

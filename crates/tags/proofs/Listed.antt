@@ -1,18 +1,16 @@
 -- The nodes of a text from a place on.
 -- Assumes nothing.
-use Prim.Native.Nat.{ℕ, zero, suc, _+_, _-_, _*_, _/_, _%_, _<_, _≤_}
+use Prim.Native.Nat.{ℕ, zero, suc, _+_, _-_, _*_, _<_, _≤_}
 use native.Mathlib.Omega.{arith}
 use native.Mathlib.Numerals.{add-one}
-use native.Mathlib.Nat.{add-zero}
 use mathlib.Core.Path.{_≡_, refl, sym, ap, _∙_}
-use mathlib.Core.Bool.{Bool, true, false}
-use mathlib.Core.List.{List, [], _∷_, _++_}
+use mathlib.Core.Bool.{Bool}
+use mathlib.Core.List.{List, [], _∷_}
 use lib.Dec.{eqb}
-use lib.ListN.{length, getD, take, drop, set, length-drop, drop-of-length-le}
-use lib.Seq.{drop-cons, getD-drop, take-all}
-use Rattle.blocks.proofs.Laws.{copied-more}
+use lib.ListN.{length, getD, drop, length-drop, drop-of-length-le}
+use lib.Seq.{drop-cons, getD-drop}
 use borrow.Author.Tests.{eq-eqb, ne-eqb}
-use Rattle.tags.specs.Classes.{classOf, pick}
+use Rattle.tags.specs.Classes.{classOf}
 use Rattle.tags.specs.Tags.{digitOf, tagBefore, andTag, tagsIn, tagAt, nodeOf, nodesOf, nodesIn}
 use Rattle.tags.specs.declared.Tag.{Tag}
 use Rattle.tags.specs.declared.Tag.the-variants.{Opens as opens, Closes as closes}
@@ -47,15 +45,6 @@ nodes-other s i h e =
 pub nodes-end : (s : List ℕ) (i : ℕ) → length s ≤ i → nodesIn (drop i s) ≡ 0 ∷ []
 unfolding nodesIn nodesOf tagsIn
 nodes-end s i h = rw (drop-of-length-le s {i = i} h)
-
--- a list from a place on: its first element, and what follows
-pub first :
-    (s : List ℕ) (at n : ℕ) (rest : List ℕ) → drop at s ≡ n ∷ rest →
-    (at < length s) × (getD s at 0 ≡ n) × (drop (at + 1) s ≡ rest)
-first s at n rest e =
-    let h : at < length s = omega (arith, sym (length-drop at s) ∙ ap length e) in
-    let c = drop-cons s at 0 h in
-    (h, (cc), rw add-one (cc))
 
 pub digit-small : (b : ℕ) → classOf b ≡ 1 → (digitOf b ≡ b - 48) × (b - 48 < 10) × (48 ≤ b)
 unfolding digitOf

@@ -1,4 +1,5 @@
--- "Each of the 256 byte values has a class from a fixed table: space (9, 10, 13, 32), digit, `<`, `/`, `>`, other."
+-- The classes of bytes. The quotation is of document 02, W6.
+-- Interface: `classOf`, `IsTable`.
 use Prim.Native.Nat.{ℕ, _<_}
 use mathlib.Core.Path.{_≡_}
 use mathlib.Core.List.{List}
@@ -29,6 +30,7 @@ abbrev pub pick : Bool → ℕ → ℕ → ℕ
 pick true a b = a
 pick false a b = b
 
+-- "Each of the 256 byte values has a class from a fixed table: space (9, 10, 13, 32), digit, `<`, `/`, `>`, other."
 unfoldable pub classOf : ℕ → ℕ
 classOf b =
     pick (eqb b 9 || eqb b 10 || eqb b 13 || eqb b 32) space

@@ -1,7 +1,8 @@
--- The tags of a text, found by their `<`, and the nodes that they stand for.
-use Prim.Native.Nat.{ℕ, zero, suc, _+_, _-_, _*_, _/_, _%_, _^_}
+-- The tags of a text, found by their `<`, and the nodes that they stand for. The quotation is of document 02, W6.
+-- Interface: `tagsIn`, `nodesIn`, `badTag`.
+use Prim.Native.Nat.{ℕ, _+_, _-_, _*_}
 use mathlib.Core.Bool.{Bool, true, false, not, _&&_}
-use mathlib.Core.List.{List, [], _∷_, _++_}
+use mathlib.Core.List.{List, [], _∷_}
 use lib.Dec.{eqb}
 use lib.ListN.{getD}
 use Rattle.relation.specs.Sets.{member}

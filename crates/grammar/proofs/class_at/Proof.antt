@@ -1,11 +1,10 @@
+-- `grammar::class_at` meets its contract.
+-- Assumes nothing.
 use borrow.Author.Needs.{needs}
 use borrow.Author.Tests.{lt-ltb, le-ltb}
 use Rattle.grammar.specs.Reading.{classAt}
 use Rattle.grammar.proofs.class_at.Statement.{statement}
 use Rattle.grammar.proofs.class_at.Tie as tie
-use Rattle.grammar.proofs.class_at.Reads as reads
-use Rattle.grammar.proofs.class_at.Lts as lts
-use Rattle.tags.proofs.class_in.Reads as class-in-reads
 
 shared-slice-read-class-in : tie.Need-shared-slice-read-class-in
 shared-slice-read-class-in c = search needs

@@ -1,15 +1,13 @@
+-- `grammar::close_tag` meets its contract.
+-- Assumes nothing.
 use borrow.Author.Needs.{needs}
-use native.Mathlib.Omega.{arith}
 use mathlib.Core.Bool.{true}
-use Prim.Native.Nat.{ℕ, _+_, _/_, _%_}
+use Prim.Native.Nat.{_+_, _/_, _%_}
 use lib.Arith.{lt-of-le-ne}
 use Rattle.grammar.specs.Reading.{CloseAt, IsByte}
 use Rattle.grammar.proofs.Going.{early-stuck, byte-no, byte-yes, short-wrong-0, short-wrong-1, short-shut, long-wrong-0, long-wrong-1, long-wrong-2, long-shut}
 use Rattle.grammar.proofs.close_tag.Statement.{statement}
 use Rattle.grammar.proofs.close_tag.Tie as tie
-use Rattle.grammar.proofs.close_tag.Reads as reads
-use Rattle.grammar.proofs.close_tag.Lts as lts
-use Rattle.grammar.proofs.is_byte.Reads as is-byte-reads
 
 -- past the first test `</` stands there
 close-is : (c : tie.Else1) → CloseAt (c .before .before .args .text .now) (c .before .before .args .at)

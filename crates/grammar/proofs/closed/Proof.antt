@@ -3,8 +3,6 @@
 use borrow.Author.Needs.{needs}
 use Rattle.grammar.proofs.closed.Statement.{statement}
 use Rattle.grammar.proofs.closed.Tie as tie
-use Rattle.grammar.proofs.closed.Reads as reads
-use Rattle.grammar.proofs.closed.Lts as lts
 
 enum-known-closing : tie.Need-enum-known-closing
 enum-known-closing c = search needs

@@ -1,10 +1,10 @@
+-- `grammar::is_byte` meets its contract.
+-- Assumes nothing.
 use borrow.Author.Needs.{needs}
 use native.Mathlib.Omega.{arith}
 use Rattle.grammar.proofs.Going.{byte-is}
 use Rattle.grammar.proofs.is_byte.Statement.{statement}
 use Rattle.grammar.proofs.is_byte.Tie as tie
-use Rattle.grammar.proofs.is_byte.Reads as reads
-use Rattle.grammar.proofs.is_byte.Lts as lts
 
 shared-slice-read-here : tie.Need-shared-slice-read-here
 shared-slice-read-here c = search needs

@@ -1,15 +1,14 @@
+-- `grammar::open_tag` meets its contract.
+-- Assumes nothing.
 use borrow.Author.Needs.{needs}
 use native.Mathlib.Omega.{arith}
-use Prim.Native.Nat.{ℕ, _+_, _-_, _<_, _≤_}
+use Prim.Native.Nat.{_+_, _<_, _≤_}
 use mathlib.Core.Path.{_≡_, sym, _∙_}
 use lib.ListN.{length, getD}
 use Rattle.grammar.specs.Reading.{classAt}
 use Rattle.grammar.proofs.Going.{first-wrong, first-byte, short, second-wrong, second-byte, third-wrong, long}
 use Rattle.grammar.proofs.open_tag.Statement.{statement}
 use Rattle.grammar.proofs.open_tag.Tie as tie
-use Rattle.grammar.proofs.open_tag.Reads as reads
-use Rattle.grammar.proofs.open_tag.Lts as lts
-use Rattle.grammar.proofs.class_at.Reads as class-at-reads
 
 -- past the first test a digit stands after `<`
 first-is : (c : tie.Else1) → classAt (c .before .before .before .args .text .now) (c .before .before .before .args .at + 1) ≡ 1

@@ -3,8 +3,6 @@
 use borrow.Author.Needs.{needs}
 use Rattle.grammar.proofs.opened.Statement.{statement}
 use Rattle.grammar.proofs.opened.Tie as tie
-use Rattle.grammar.proofs.opened.Reads as reads
-use Rattle.grammar.proofs.opened.Lts as lts
 
 enum-known-opening : tie.Need-enum-known-opening
 enum-known-opening c = search needs

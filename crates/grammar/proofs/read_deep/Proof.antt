@@ -2,9 +2,8 @@
 -- Assumes nothing.
 use borrow.Author.Needs.{needs}
 use native.Mathlib.Omega.{arith}
-use Prim.Native.Nat.{ℕ, _+_, _-_, _<_, _≤_}
+use Prim.Native.Nat.{_-_}
 use mathlib.Core.Path.{_≡_, refl, sym, ap, _∙_}
-use mathlib.Core.List.{List}
 use lib.ListN.{length}
 use Rattle.blocks.specs.declared.Found.{Found}
 use Rattle.grammar.specs.Reading.{Named, Closes, Reached}
@@ -15,11 +14,6 @@ use Rattle.grammar.proofs.Going.{less-at}
 use Rattle.grammar.proofs.Deep.{positive, reached-first, count-room, reached-open, reached-close, reached-stuck, reached-other, reached-early, reached-right}
 use Rattle.grammar.proofs.read_deep.Statement.{statement}
 use Rattle.grammar.proofs.read_deep.Tie as tie
-use Rattle.grammar.proofs.read_deep.Reads as reads
-use Rattle.grammar.proofs.read_deep.Lts as lts
-use Rattle.grammar.proofs.class_at.Reads as class-at-reads
-use Rattle.grammar.proofs.read_tag.Reads as read-tag-reads
-use Rattle.grammar.proofs.skip.Reads as skip-reads
 
 abbrev Inv-loop : tie.InvT-loop
 Inv-loop text classes nodes₀ first numbers₀ depth₀ count₀ next₀ nodes numbers depth count next = Reached text next numbers depth count nodes

@@ -2,17 +2,10 @@
 -- Assumes nothing.
 use borrow.Author.Needs.{needs}
 use native.Mathlib.Omega.{arith}
-use mathlib.Core.Path.{_≡_, sym, _∙_}
+use mathlib.Core.Path.{sym, _∙_}
 use Rattle.grammar.proofs.Deep.{positive, opened-read, closed-read, slash-at, closes-nothing}
 use Rattle.grammar.proofs.read_tag.Statement.{statement}
 use Rattle.grammar.proofs.read_tag.Tie as tie
-use Rattle.grammar.proofs.read_tag.Reads as reads
-use Rattle.grammar.proofs.read_tag.Lts as lts
-use Rattle.grammar.proofs.class_at.Reads as class-at-reads
-use Rattle.grammar.proofs.close_tag.Reads as close-tag-reads
-use Rattle.grammar.proofs.closed.Reads as closed-reads
-use Rattle.grammar.proofs.open_tag.Reads as open-tag-reads
-use Rattle.grammar.proofs.opened.Reads as opened-reads
 
 add-class-at : tie.Need-add-class-at
 add-class-at c = search needs

@@ -2,9 +2,8 @@
 -- Assumes nothing.
 use borrow.Author.Needs.{needs}
 use native.Mathlib.Omega.{arith}
-use Prim.Native.Nat.{ℕ, _+_}
-use mathlib.Core.Path.{_≡_, ap, _∙_}
-use mathlib.Core.List.{List}
+use Prim.Native.Nat.{_+_}
+use mathlib.Core.Path.{ap, _∙_}
 use lib.Arith.{lt-of-le-ne}
 use Rattle.blocks.specs.declared.Found.{Found}
 use Rattle.grammar.specs.Reading.{RunRead}
@@ -15,12 +14,6 @@ use Rattle.grammar.proofs.Filling.{filled-room, on-filled, nothing-fill
 use Rattle.grammar.proofs.Whole.{spaces-wrong, text-right, text-closed, text-stuck}
 use Rattle.grammar.proofs.read_text.Statement.{statement}
 use Rattle.grammar.proofs.read_text.Tie as tie
-use Rattle.grammar.proofs.read_text.Reads as reads
-use Rattle.grammar.proofs.read_text.Lts as lts
-use Rattle.grammar.proofs.read_deep.Reads as read-deep-reads
-use Rattle.grammar.proofs.run.Reads as run-reads
-use Rattle.grammar.proofs.skip.Reads as skip-reads
-use Rattle.tags.proofs.class_table.Reads as class-table-reads
 
 -- the run that was read
 passed : (c : tie.After-known-told2) →

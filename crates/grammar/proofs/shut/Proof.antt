@@ -3,8 +3,6 @@
 use borrow.Author.Needs.{needs}
 use Rattle.grammar.proofs.shut.Statement.{statement}
 use Rattle.grammar.proofs.shut.Tie as tie
-use Rattle.grammar.proofs.shut.Reads as reads
-use Rattle.grammar.proofs.shut.Lts as lts
 
 enum-known-closing : tie.Need-enum-known-closing
 enum-known-closing c = search needs

@@ -1,3 +1,5 @@
+-- `grammar::skip` meets its contract.
+-- Assumes nothing.
 use borrow.Author.Needs.{needs}
 use native.Mathlib.Omega.{arith}
 use Prim.Native.Nat.{ℕ, _-_, _<_, _≤_}
@@ -8,14 +10,10 @@ use Rattle.tags.specs.Tags.{nodesIn}
 use Rattle.tags.proofs.Listed.{nodes-on}
 use Rattle.tags.proofs.ClassLaws.{space-less}
 use Rattle.grammar.specs.Pushdown.{between, Goes, here}
-use Rattle.grammar.specs.Reading.{Skipped}
 use Rattle.tags.specs.Classes.{classOf}
 use Rattle.grammar.proofs.Going.{trans, space-go, one-more}
 use Rattle.grammar.proofs.skip.Statement.{statement}
 use Rattle.grammar.proofs.skip.Tie as tie
-use Rattle.grammar.proofs.skip.Reads as reads
-use Rattle.grammar.proofs.skip.Lts as lts
-use Rattle.tags.proofs.class_in.Reads as class-in-reads
 
 abbrev Inv-loop : tie.InvT-loop
 Inv-loop text at classes next₀ next = (at ≤ next) × (next ≤ length text) × ((stack : List ℕ) → Goes text at (between stack) next (between stack)) × ((i : ℕ) → at ≤ i → i < next → classOf (getD text i 0) ≡ 0) × (nodesIn (drop at text) ≡ nodesIn (drop next text))

@@ -3,8 +3,6 @@
 use borrow.Author.Needs.{needs}
 use Rattle.markup.proofs.refused_by.Statement.{statement}
 use Rattle.markup.proofs.refused_by.Tie as tie
-use Rattle.markup.proofs.refused_by.Reads as reads
-use Rattle.markup.proofs.refused_by.Lts as lts
 
 enum-known-check : tie.Need-enum-known-check
 enum-known-check c = search needs

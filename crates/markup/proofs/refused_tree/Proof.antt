@@ -8,10 +8,6 @@ use Rattle.markup.proofs.Checked.{other-tags, tags-passed, large-tree, 
 use Rattle.refusal.specs.declared.Check.the-variants.{Passed}
 use Rattle.markup.proofs.refused_tree.Statement.{statement}
 use Rattle.markup.proofs.refused_tree.Tie as tie
-use Rattle.markup.proofs.refused_tree.Reads as reads
-use Rattle.markup.proofs.refused_tree.Lts as lts
-use Rattle.refusal.proofs.refused.Reads as refused-reads
-use Rattle.tags.proofs.first_bad_tag.Reads as first-bad-tag-reads
 
 -- no tag is bad
 tags-are : (c : tie.After-enum-told) → tagCheck (c .before .before .before .before .args .signature) (c .before .before .before .before .args .text .now) ≡ Passed

@@ -10,12 +10,6 @@ use Rattle.markup.specs.Checks.{textTree, tagCheck}
 use Rattle.markup.proofs.Checked.{zero-tag, nodes-passed, large-tree, small-tree}
 use Rattle.markup.proofs.tree_check.Statement.{statement}
 use Rattle.markup.proofs.tree_check.Tie as tie
-use Rattle.markup.proofs.tree_check.Reads as reads
-use Rattle.markup.proofs.tree_check.Lts as lts
-use Rattle.algorithms.proofs.is_branch.Reads as is-branch-reads
-use Rattle.markup.proofs.refused_tree.Reads as refused-tree-reads
-use Rattle.nodes.proofs.check.Reads as check-reads
-use Rattle.refusal.proofs.refused.Reads as refused-reads
 
 -- lines 10 to 12 pass the nodes, and so 19 and 12 pass the text
 both-are : (c : tie.After-enum-told) →

@@ -17,11 +17,6 @@ use Rattle.markup.specs.Written.{textFile, markupFor}
 use Rattle.markup.proofs.Checked.{tree-few, tree-refused, room-decides, long-is, file-is}
 use Rattle.markup.proofs.write_nodes.Statement.{statement}
 use Rattle.markup.proofs.write_nodes.Tie as tie
-use Rattle.markup.proofs.write_nodes.Reads as reads
-use Rattle.markup.proofs.write_nodes.Lts as lts
-use Rattle.block_writer.proofs.room_check.Reads as room-check-reads
-use Rattle.markup.proofs.tree_check.Reads as tree-check-reads
-use Rattle.tree_writer.proofs.write_tree.Reads as write-tree-reads
 
 -- 19, 4 and 12 pass the text
 checks-are : (c : tie.After-enum-told) →

@@ -11,12 +11,6 @@ use Rattle.markup.specs.Checks.{textCheck}
 use Rattle.markup.proofs.Checked.{text-long, read-wrong, read-right, text-told}
 use Rattle.markup.proofs.write_text.Statement.{statement}
 use Rattle.markup.proofs.write_text.Tie as tie
-use Rattle.markup.proofs.write_text.Reads as reads
-use Rattle.markup.proofs.write_text.Lts as lts
-use Rattle.grammar.proofs.read_text.Reads as read-text-reads
-use Rattle.markup.proofs.refused_by.Reads as refused-by-reads
-use Rattle.markup.proofs.write_nodes.Reads as write-nodes-reads
-use Rattle.refusal.proofs.refused.Reads as refused-reads
 
 -- the text is right, and its nodes are at the front of the list
 right : (c : tie.After-known-told2) → let q = c .before .before .before .before .before .before .before .before in

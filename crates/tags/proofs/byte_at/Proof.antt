@@ -1,10 +1,10 @@
+-- `tags::byte_at` meets its contract.
+-- Assumes nothing.
 use borrow.Author.Needs.{needs}
 use mathlib.Core.Path.{sym}
 use Rattle.tags.proofs.Listed.{past}
 use Rattle.tags.proofs.byte_at.Statement.{statement}
 use Rattle.tags.proofs.byte_at.Tie as tie
-use Rattle.tags.proofs.byte_at.Reads as reads
-use Rattle.tags.proofs.byte_at.Lts as lts
 
 shared-slice-read-result : tie.Need-shared-slice-read-result
 shared-slice-read-result c = search needs

@@ -4,8 +4,6 @@ use borrow.Author.Needs.{needs}
 use Rattle.tags.specs.Classes.{IsTable}
 use Rattle.tags.proofs.class_in.Statement.{statement}
 use Rattle.tags.proofs.class_in.Tie as tie
-use Rattle.tags.proofs.class_in.Reads as reads
-use Rattle.tags.proofs.class_in.Lts as lts
 
 element-copy-out-result : tie.Need-element-copy-out-result
 element-copy-out-result c = search needs

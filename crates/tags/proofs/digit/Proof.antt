@@ -1,12 +1,11 @@
+-- `tags::digit` meets its contract.
+-- Assumes nothing.
 use borrow.Author.Needs.{needs}
 use mathlib.Core.Path.{sym, _∙_}
 use native.Mathlib.Omega.{arith}
 use Rattle.tags.proofs.Listed.{digit-small, no-digit}
 use Rattle.tags.proofs.digit.Statement.{statement}
 use Rattle.tags.proofs.digit.Tie as tie
-use Rattle.tags.proofs.digit.Reads as reads
-use Rattle.tags.proofs.digit.Lts as lts
-use Rattle.tags.proofs.class_of.Reads as class-of-reads
 
 class-of-requires : tie.Need-class-of-requires
 class-of-requires c κs = search needs

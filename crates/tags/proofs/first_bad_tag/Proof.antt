@@ -1,3 +1,5 @@
+-- `tags::first_bad_tag` meets its contract.
+-- Assumes nothing.
 use borrow.Author.Needs.{needs}
 use Prim.Native.Nat.{_-_, _≤_}
 use mathlib.Core.Path.{_≡_, sym, _∙_}
@@ -8,9 +10,6 @@ use Rattle.blocks.proofs.Laws.{lowest-passed, lowest-hit, lowest-none}
 use Rattle.tags.specs.Tags.{badTag}
 use Rattle.tags.proofs.first_bad_tag.Statement.{statement}
 use Rattle.tags.proofs.first_bad_tag.Tie as tie
-use Rattle.tags.proofs.first_bad_tag.Reads as reads
-use Rattle.tags.proofs.first_bad_tag.Lts as lts
-use Rattle.tags.proofs.is_bad_tag.Reads as is-bad-tag-reads
 
 abbrev Inv-loop : tie.InvT-loop
 Inv-loop branches text at₀ at = (at ≤ length text) × (lowest (badTag branches text) (length text) ≡ lowestFrom (badTag branches text) at (length text - at))

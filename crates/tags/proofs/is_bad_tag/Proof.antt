@@ -1,13 +1,11 @@
+-- `tags::is_bad_tag` meets its contract.
+-- Assumes nothing.
 use borrow.Author.Needs.{needs}
-use mathlib.Core.Path.{_≡_, sym, ap, _∙_}
+use mathlib.Core.Path.{ap, _∙_}
 use borrow.Author.Tests.{eq-eqb, ne-eqb}
 use Rattle.tags.specs.Tags.{badTag, noBranch}
 use Rattle.tags.proofs.is_bad_tag.Statement.{statement}
 use Rattle.tags.proofs.is_bad_tag.Tie as tie
-use Rattle.tags.proofs.is_bad_tag.Reads as reads
-use Rattle.tags.proofs.is_bad_tag.Lts as lts
-use Rattle.tags.proofs.no_branch.Reads as no-branch-reads
-use Rattle.tags.proofs.tag_at.Reads as tag-at-reads
 
 shared-slice-read-if1 : tie.Need-shared-slice-read-if1
 shared-slice-read-if1 c = search needs

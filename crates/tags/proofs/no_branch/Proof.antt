@@ -1,10 +1,10 @@
+-- `tags::no_branch` meets its contract.
+-- Assumes nothing.
 use borrow.Author.Needs.{needs}
 use mathlib.Core.Path.{ap}
 use mathlib.Core.Bool.{not}
 use Rattle.tags.proofs.no_branch.Statement.{statement}
 use Rattle.tags.proofs.no_branch.Tie as tie
-use Rattle.tags.proofs.no_branch.Reads as reads
-use Rattle.tags.proofs.no_branch.Lts as lts
 
 enum-known-tag : tie.Need-enum-known-tag
 enum-known-tag c = search needs

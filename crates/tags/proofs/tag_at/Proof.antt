@@ -1,13 +1,11 @@
+-- `tags::tag_at` meets its contract.
+-- Assumes nothing.
 use borrow.Author.Needs.{needs}
-use mathlib.Core.Path.{_≡_, sym, ap, _∙_}
+use mathlib.Core.Path.{sym, _∙_}
 use borrow.Author.Tests.{eq-eqb, ne-eqb}
 use Rattle.tags.specs.Tags.{tagBefore}
 use Rattle.tags.proofs.tag_at.Statement.{statement}
 use Rattle.tags.proofs.tag_at.Tie as tie
-use Rattle.tags.proofs.tag_at.Reads as reads
-use Rattle.tags.proofs.tag_at.Lts as lts
-use Rattle.tags.proofs.byte_at.Reads as byte-at-reads
-use Rattle.tags.proofs.digit.Reads as digit-reads
 
 add-byte-at : tie.Need-add-byte-at
 add-byte-at c = search needs
