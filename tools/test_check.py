@@ -5,7 +5,8 @@ import os, shutil, subprocess, tempfile, unittest
 
 HERE = os.path.dirname(os.path.abspath(__file__))
 ROOT = os.path.join(HERE, '..')
-COPIED = ['tools', 'samples', 'crates/cases', 'crates/report_cases', 'crates/witness_cases', 'crates/canonical_cases', 'crates/example', 'crates/convert']
+COPIED = ['tools', 'samples', 'crates/cases', 'crates/report_cases', 'crates/witness_cases', 'crates/canonical_cases', 'crates/markup_cases', 'crates/example',
+          'crates/convert', 'crates/compose']
 
 
 class Check(unittest.TestCase):
@@ -34,7 +35,8 @@ class Check(unittest.TestCase):
 
     def test_differences(self):
         changed = ['crates/cases/stdin', 'crates/cases/stdout', 'crates/report_cases/stdout', 'crates/report_cases/data/07.letters',
-                   'crates/report_cases/data/38.walker', 'crates/witness_cases/stdin', 'crates/canonical_cases/stdout', 'crates/convert/stdout',
+                   'crates/report_cases/data/38.walker', 'crates/witness_cases/stdin', 'crates/canonical_cases/stdout', 'crates/markup_cases/stdin',
+                   'crates/convert/stdout', 'crates/compose/stdout',
                    'samples/annex/walker.blk', 'samples/example/letters.blk']
         for name in changed:
             self.change(name)
@@ -44,8 +46,8 @@ class Check(unittest.TestCase):
         self.assertEqual((status, out), (1, 'stored\n'))
         for name in changed + ['11.walker', 'more.walker']:
             self.assertIn(name, said)
-        # the stored letter of `example` is the first of the one sample's, and the walker of `convert` the other's
-        self.assertEqual(said.count('FAILED'), 11)
+        # the stored letter of `example` is the first of the one sample's, and the walker of `convert` and of `compose` the other's
+        self.assertEqual(said.count('FAILED'), 14)
 
     def test_maker_fails(self):
         with open(self.path('tools/make_cases.py'), 'a') as file:

@@ -1,5 +1,5 @@
 #!/usr/bin/env python3
-"""Tests tools/example and tools/convert with stand-ins for the toolchain and the program, in a folder of its own: what is missing, and that what stood
+"""Tests tools/example, tools/convert and tools/compose with stand-ins for the toolchain and the program, in a folder of its own: what is missing, and that what stood
 in the file to write stays where nothing was written."""
 import os, shutil, subprocess, tempfile, unittest
 
@@ -17,6 +17,7 @@ TOOLCHAIN = '''#!/bin/sh
 
 class Writer:
     name = output = None
+    inputs, made = ['a walker'], 'made of a walker'
 
     def setUp(self):
         folder = tempfile.TemporaryDirectory()
@@ -29,6 +30,7 @@ class Writer:
         for script in self.name, 'writer':
             shutil.copy(os.path.join(HERE, script), os.path.join(self.root, 'project/tools', script))
         self.write('mine/a walker', 'a walker')
+        self.write('mine/a text', 'a text')
         self.write('mine/a file', 'old')
 
     def write(self, name, content):
@@ -47,29 +49,30 @@ class Writer:
             return run.returncode, run.stderr, file.read()
 
     def test_written(self):
-        self.assertEqual(self.run_script('a walker', 'a file'), (0, '', 'made of a walker'))
+        self.assertEqual(self.run_script(*self.inputs, 'a file'), (0, '', self.made))
 
     def test_none(self):
         self.write('mine/words', 'walker refused=1 place=0\n')
-        self.assertEqual(self.run_script('a walker', 'a file'), (1, f'tools/{self.name}: walker refused=1 place=0\n', 'old'))
+        self.assertEqual(self.run_script(*self.inputs, 'a file'), (1, f'tools/{self.name}: walker refused=1 place=0\n', 'old'))
 
     def test_failure(self):
         self.write('mine/status', '3')
-        self.assertEqual(self.run_script('a walker', 'a file'), (1, f'tools/{self.name}: the program failed (3)\n', 'old'))
+        self.assertEqual(self.run_script(*self.inputs, 'a file'), (1, f'tools/{self.name}: the program failed (3)\n', 'old'))
 
     def test_missing(self):
-        status, said, left = self.run_script('no walker', 'a file')
-        self.assertEqual((status, left), (1, 'old'))
-        self.assertIn('no walker: there is no such file', said)
-        status, said, left = self.run_script('a walker', 'none/file')
+        for missing in self.inputs:
+            status, said, left = self.run_script(*['none' if name == missing else name for name in self.inputs], 'a file')
+            self.assertEqual((status, left), (1, 'old'))
+            self.assertIn('none: there is no such file', said)
+        status, said, left = self.run_script(*self.inputs, 'none/file')
         self.assertEqual((status, left), (1, 'old'))
         self.assertIn('none/file: the file could not be written', said)
 
     def test_words(self):
-        for words in [], ['a walker'], ['a walker', 'a file', 'another']:
+        for words in [], self.inputs, self.inputs + ['a file', 'another']:
             status, said, left = self.run_script(*words)
             self.assertEqual((status, left), (2, 'old'))
-            self.assertIn(f'tools/{self.name} WALKER {self.output}', said)
+            self.assertIn(f'tools/{self.name} WALKER {self.output}:', said)
 
 
 class Example(Writer, unittest.TestCase):
@@ -78,6 +81,15 @@ class Example(Writer, unittest.TestCase):
 
 class Convert(Writer, unittest.TestCase):
     name, output = 'convert', 'FORM'
+
+
+class Compose(Writer, unittest.TestCase):
+    name, output = 'compose', 'TEXT LETTER'
+    inputs, made = ['a walker', 'a text'], 'made of \x08\0a walkera text'
+
+    def test_long_walker(self):
+        self.write('mine/a walker', 'w' * 4000)
+        self.assertEqual(self.run_script(*self.inputs, 'a file'), (0, '', 'made of \x01\x0c' + 'w' * 3073 + 'a text'))
 
 
 if __name__ == '__main__':
