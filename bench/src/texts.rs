@@ -76,7 +76,7 @@ fn in_rust(file: &[u8], text: &[u8], out: &mut [u8]) -> Result<usize, Refusal> {
 pub fn run() -> Result<(), String> {
     let file = automaton().write();
     println!("\nelement texts, microseconds a text, best of {ROUNDS} rounds:");
-    println!("{:<18}{:>8}{:>12}{:>14}{:>18}   {}", "text", "bytes", "engine", "Rust", "engine / Rust", "answer");
+    println!("{:<18}{:>8}{:>12}{:>14}{:>18}   answer", "text", "bytes", "engine", "Rust", "engine / Rust");
     cases().iter().try_for_each(|(name, text)| measure(name, &file, text))
 }
 
