@@ -77,7 +77,7 @@ uint32_t engine_canonical(const uint8_t *file, size_t length, uint8_t *out, size
 /* Writes the tree of an element text, for an automaton, as a tree's file at the front of the output. A text is one or more elements; an element
  * is <n>, elements or none, and </n>, with n from 0 to 99; spaces, tabs and line ends may stand around tags. An element is a branch: its left
  * part is what stands inside it, its right part what follows it; where nothing stands there is a leaf of symbol 0. Later bytes stay; a call
- * that is refused changes none. It takes the most stack of all calls, where a text opens more than ten thousand elements and closes none.
+ * that is refused changes none. However deep the elements are, the stack stays as said above.
  * 0 written (length), 1 refused (number, file, place): after the automaton's refusals 18, a text of over 32,768 bytes (32,768) or none (the
  * first byte at which no continuation could be right, or the length), 19, symbol 0 is no leaf (0) or a tag's is no branch (its <), then, as
  * of the tree's file, 4, over 4,096 nodes (2), and 12, a height over 64 (the first node that is too far below the root), and 13, the output

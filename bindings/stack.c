@@ -194,17 +194,19 @@ static size_t nest(uint8_t *text, size_t depth, int closed)
     return depth * (closed ? 7 : 3);
 }
 
-/* The deepest text, which ends early; the deepest that is whole, whose symbol 0 is no leaf, or which is too large; and, for the walker with
- * symbol 0 as the only leaf, the deepest that is written. */
+/* The deepest text, which ends early, the deepest that is whole, and one as deep as a tree may be: by the walker, of which symbol 0 is no leaf,
+ * and by one of which it is the only leaf, so that the last text is written. */
 static void call_markup(void)
 {
-    static uint8_t text[TEXT], out[LETTER];
-    static const struct {
-        size_t depth;
-        int closed;
-    } texts[] = {{TEXT / 3, 0}, {TEXT / 7, 1}, {HEIGHT, 1}};
-    for (int i = 0; i < 3; i++)
-        answer = engine_markup(input.walker, input.walker_length, text, nest(text, texts[i].depth, texts[i].closed), out, sizeof out, told);
+    static uint8_t text[TEXT], out[LETTER], walker[BLOCK];
+    static const uint8_t leaf[20] = {87, 1, 32, [8] = 1, [12] = 1, [16] = 0xfe, 0xff, 0xff, 0xff};
+    static const size_t depths[3] = {TEXT / 3, TEXT / 7, HEIGHT};
+    size_t length = write_file(walker, leaf, sizeof leaf);
+    for (int i = 0; i < 3; i++) {
+        size_t n = nest(text, depths[i], i > 0);
+        engine_markup(input.walker, input.walker_length, text, n, out, sizeof out, told);
+        answer = engine_markup(walker, length, text, n, out, sizeof out, told);
+    }
 }
 
 static void call_count(void)
@@ -285,7 +287,7 @@ static size_t most_of(void (*call)(void))
 }
 
 /* That the inputs are what they should be: refused, not accepted and accepted; nine blocks; a survey that ends with Open 64; two plans that
- * are written; a form of six blocks, and one that 17 refuses. */
+ * are written; a form of six blocks, and one that 17 refuses; a text that is written. */
 static int inputs_right(void)
 {
     for (int number = 0; number < INPUTS; number++) {
@@ -302,6 +304,9 @@ static int inputs_right(void)
             return 0;
         call_canonical();
         if (walker != NONE && (answer != (walker == SPREAD) || told[0] != (walker == SPREAD ? 17 : WALKER)))
+            return 0;
+        call_markup();
+        if (answer != 0 || told[0] != BLOCK)
             return 0;
     }
     return 1;

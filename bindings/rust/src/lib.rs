@@ -155,8 +155,7 @@ pub fn canonical(file: &[u8], out: &mut [u8]) -> Result<usize, Refusal> {
 /// The tree of an element text, for an automaton's file, as a tree's file at the front of the output; its length. A text is one or more elements,
 /// an element is `<n>`, elements or none, and `</n>`, with n from 0 to 99; spaces, tabs and line ends may stand around tags. An element is a
 /// branch over what stands inside it and what follows it; where nothing stands there is a leaf of symbol 0. Later bytes stay, and a call that is
-/// refused changes none. No output of `TREE` bytes is too short. A text may open more than ten thousand elements: `bindings/engine.h` says what
-/// stack that takes.
+/// refused changes none. No output of `TREE` bytes is too short.
 pub fn markup(file: &[u8], text: &[u8], out: &mut [u8]) -> Result<usize, Refusal> {
     match declared::markup(file, text, out) {
         (0, [length, ..]) => Ok(length),
