@@ -17,7 +17,7 @@ use Rattle.refusal.proofs.Passed.{clash, and-is-true}
 use Rattle.tags.specs.Classes.{classOf}
 use Rattle.grammar.specs.Grammar.{Elements, empty, element, Spaces, none, more, Writes, blank, tagged, Text, OneOrMore, Begins, WrongAt, openTag, closeTag}
 use Rattle.grammar.specs.Pushdown.{Configuration, between, tag, one, two, closing, dead, step, steps, alive, Alive}
-use Rattle.grammar.specs.Wrong.{closed, onlySpaces, begins, isText, wrongAt, wrongPlace}
+use Rattle.grammar.specs.Wrong.{nothingOpen, onlySpaces, begins, isText, wrongAt, wrongPlace}
 use Rattle.grammar.specs.Reading.{TextRead, parseOf}
 use Rattle.grammar.proofs.PushdownLaws.{steps-append, text-steps, alive-begins, between-writes, dead-begins}
 use Rattle.grammar.proofs.Once.{wrong-once}
@@ -83,14 +83,14 @@ begins-false p e = dead-begins p (alive-false (steps (between []) p) e)
 
 -- ---- bytes that are a text
 
-closed-true : (q : Configuration) → closed q ≡ true → q ≡ between []
-closed-true (between []) e = refl
-closed-true (between (n ∷ stack)) e = clash (cc)
-closed-true (tag stack) e = clash (cc)
-closed-true (one d stack) e = clash (cc)
-closed-true (two n stack) e = clash (cc)
-closed-true (closing rest stack) e = clash (cc)
-closed-true dead e = clash (cc)
+nothing-open : (q : Configuration) → nothingOpen q ≡ true → q ≡ between []
+nothing-open (between []) e = refl
+nothing-open (between (n ∷ stack)) e = clash (cc)
+nothing-open (tag stack) e = clash (cc)
+nothing-open (one d stack) e = clash (cc)
+nothing-open (two n stack) e = clash (cc)
+nothing-open (closing rest stack) e = clash (cc)
+nothing-open dead e = clash (cc)
 
 spaces-only : {s : List ℕ} → Spaces s → onlySpaces s ≡ true
 spaces-only none = refl
@@ -122,8 +122,8 @@ some s (element n x y) e w = tt
 pub text-true : (s : List ℕ) → isText s ≡ true → (r : Elements) × Text s r
 unfolding isText
 text-true s e =
-    let both = and-is-true (closed (steps (between []) s)) (not (onlySpaces s)) e in
-    let w = between-writes s (closed-true _ (both .0)) in
+    let both = and-is-true (nothingOpen (steps (between []) s)) (not (onlySpaces s)) e in
+    let w = between-writes s (nothing-open _ (both .0)) in
     (w .0, record { writes = w .1; some = some s (w .0) (not-true _ (both .1)) (w .1) })
 
 pub text-false : (s : List ℕ) → isText s ≡ false → (r : Elements) → Text s r → ⊥

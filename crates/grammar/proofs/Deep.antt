@@ -12,11 +12,12 @@ use lib.ListN.{length, getD, set, length-set}
 use borrow.Author.Tests.{eqb-true, eqb-false}
 use Rattle.tags.proofs.ClassLaws.{class-slash}
 use Rattle.grammar.specs.Grammar.{Elements, Text, WrongAt}
-use Rattle.grammar.specs.Pushdown.{Configuration, between, Goes}
+use Rattle.grammar.specs.Pushdown.{between, Goes}
 use Rattle.grammar.specs.Reading.{classAt, Stuck, Skipped, CloseAt, Named, CloseRead, openIn, Closes, StepRead, closedBy, openedBy, OpenRead, Reached}
 use Rattle.grammar.specs.declared.Opening.{Opening}
 use Rattle.grammar.specs.declared.Closing.{Closing}
-use Rattle.grammar.proofs.Going.{trans, stuck-after, class-in, class-of-at, between-dead, root-closed}
+use Rattle.grammar.proofs.Going.{trans, stuck-after, stuck-in, class-in, class-of-at, between-dead}
+use Rattle.grammar.proofs.CloseTags.{root-closed}
 use Rattle.grammar.proofs.Filling.{filled-room, tag-filled, on-filled, nothing-filled}
 use Rattle.grammar.proofs.Whole.{stuck-wrong, goes-right}
 
@@ -151,16 +152,8 @@ module _ {s numbers nodes : List ℕ} {next depth count : ℕ} (h : Reached s ne
   -- an element is open
   pub reached-early : next ≡ length s → (depth ≡ 0 → ⊥) → WrongAt s next
   reached-early e k =
-      stuck-wrong
-      (record {
-        from = omega arith;
-        to = h .to;
-        state = between (openIn numbers depth);
-        goes = h .goes;
-        alive = tt;
-        stop = λ m. absurd (omega arith);
-        early = λ f g. let z : _≡_ {A = Configuration} (between (getD numbers (depth - 1) 0 ∷ openIn numbers (depth - 1))) (between []) = rw (popped numbers depth k) at g in let o : _≡_ {A = ℕ} 0 1 = cc in omega arith;
-      })
+      let g : Goes s 0 (between []) next (between (getD numbers (depth - 1) 0 ∷ openIn numbers (depth - 1))) = rw (popped numbers depth k) at (h .goes) in
+      stuck-wrong (stuck-in _ (omega arith) (h .to) g tt refl (λ m. absurd (omega arith)))
 
   pub reached-right : {first : ℕ} → Skipped s 0 first → first < length s → next ≡ length s → depth ≡ 0 → (r : Elements) × Text s r
   reached-right f l e d =

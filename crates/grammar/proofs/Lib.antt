@@ -2,6 +2,9 @@ pub mod PushdownLaws
 pub mod Once
 pub mod Decided
 pub mod Going
+pub mod OpenTags
+pub mod CloseTags
+pub mod Parts
 pub mod Filling
 pub mod Whole
 pub mod Deep

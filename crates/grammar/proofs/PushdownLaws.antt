@@ -10,7 +10,7 @@ use borrow.Author.Tests.{eq-eqb, ne-eqb, ltb-true, ltb-false, eqb-true, eqb-fals
 use Rattle.tags.specs.Classes.{classOf}
 use Rattle.tags.proofs.ClassLaws.{digit-class, class-digit, class-less, class-slash, class-greater}
 use Rattle.grammar.specs.Grammar.{Elements, empty, element, Spaces, none, more, digitsIf, written, openTag, closeTag, Writes, blank, tagged, OneOrMore, Begins}
-use Rattle.grammar.specs.Pushdown.{Configuration, between, tag, one, two, closing, dead, step, steps, byClass, closed, closingOn, stateIf, Alive}
+use Rattle.grammar.specs.Pushdown.{Configuration, between, tag, one, two, closing, dead, step, steps, byClass, closingOf, closingOn, nextIf, Alive}
 
 -- ---- a run's text leads from between to between
 
@@ -163,7 +163,7 @@ open-long n d e h k l = rw (le-ltb n 10 h, k, l)
 
 second-digit :
     (p : List ℕ) (d : ℕ) (stack : List ℕ) (b : ℕ) → Reached p (one d stack) → classOf b ≡ 1 →
-    (t : Bool) → eqb d 0 ≡ t → Reached (p ++ (b ∷ [])) (stateIf t dead (two (10 * d + (b - 48)) stack))
+    (t : Bool) → eqb d 0 ≡ t → Reached (p ++ (b ∷ [])) (nextIf t dead (two (10 * d + (b - 48)) stack))
 second-digit p d stack b h e true k = tt
 second-digit p d stack b h e false k =
     let c = class-digit b e in
@@ -179,7 +179,7 @@ second-digit p d stack b h e false k =
 
 closing-byte :
     (p : List ℕ) (c : ℕ) (rest stack : List ℕ) (b : ℕ) → Reached p (closing (c ∷ rest) stack) →
-    (t : Bool) → eqb b c ≡ t → Reached (p ++ (b ∷ [])) (stateIf t (closingOn rest stack) dead)
+    (t : Bool) → eqb b c ≡ t → Reached (p ++ (b ∷ [])) (nextIf t (closingOn rest stack) dead)
 closing-byte p c [] stack b h true e = rw (eqb-true b c e, h .3) (opened-close (h .2))
 closing-byte p c (a ∷ rest) stack b h true e = (h .0, h .1, h .2, rw (eqb-true b c e) (simp append-assoc (h .3)))
 closing-byte p c rest stack b h false e = tt
@@ -191,7 +191,7 @@ reached-step p (between stack) b h =
     by-class (Reached (p ++ (b ∷ []))) (classOf b) (between stack) dead (tag stack) dead dead tt
     (λ e. opened-space b e h) (λ e. tt) (λ e. (p, h, rw (class-less b e))) (λ e. tt) (λ e. tt)
 reached-step p (tag stack) b h =
-    by-class (Reached (p ++ (b ∷ []))) (classOf b) dead (one (b - 48) stack) dead (closed stack) dead tt
+    by-class (Reached (p ++ (b ∷ []))) (classOf b) dead (one (b - 48) stack) dead (closingOf stack) dead tt
     (λ e. tt)
     (λ e.
     let k = class-digit b e in
@@ -201,11 +201,11 @@ reached-step p (tag stack) b h =
     (λ e. close stack (h .0) (h .1) (h .2) (class-slash b e))
     (λ e. tt)
   where
-    close : (st : List ℕ) (p′ : List ℕ) → Opened p′ st → p ≡ p′ ++ (60 ∷ []) → b ≡ 47 → Reached (p ++ (b ∷ [])) (closed st)
+    close : (st : List ℕ) (p′ : List ℕ) → Opened p′ st → p ≡ p′ ++ (60 ∷ []) → b ≡ 47 → Reached (p ++ (b ∷ [])) (closingOf st)
     close [] p′ o e k = tt
     close (n ∷ st) p′ o e k = (p′, n, o, rw (e, k) (simp append-assoc))
 reached-step p (one d stack) b h =
-    by-class (Reached (p ++ (b ∷ []))) (classOf b) dead (stateIf (eqb d 0) dead (two (10 * d + (b - 48)) stack)) dead dead (between (d ∷ stack)) tt
+    by-class (Reached (p ++ (b ∷ []))) (classOf b) dead (nextIf (eqb d 0) dead (two (10 * d + (b - 48)) stack)) dead dead (between (d ∷ stack)) tt
     (λ e. tt)
     (λ e. second-digit p d stack b h e (eqb d 0) refl)
     (λ e. tt)

@@ -13,7 +13,8 @@ use Rattle.grammar.specs.Pushdown.{Configuration, between, steps, Goes, 
 use Rattle.grammar.proofs.PushdownLaws.{alive-begins, between-writes}
 use Rattle.grammar.proofs.Decided.{next-steps, wrong-there, less-in}
 use Rattle.grammar.specs.Reading.{Stuck, Skipped, RunPassed}
-use Rattle.grammar.proofs.Going.{trans, stuck-after, root-closed}
+use Rattle.grammar.proofs.Going.{trans, stuck-after}
+use Rattle.grammar.proofs.CloseTags.{root-closed}
 
 -- where the automaton has got to is what it makes of the bytes before
 pub goes-steps :

@@ -24,9 +24,9 @@ pub data Configuration : Type 0 where
   -- no continuation is right
   dead : Configuration
 
-abbrev pub stateIf : Bool → Configuration → Configuration → Configuration
-stateIf true a b = a
-stateIf false a b = b
+abbrev pub nextIf : Bool → Configuration → Configuration → Configuration
+nextIf true a b = a
+nextIf false a b = b
 
 -- by class: space, digit, less, slash, greater, other
 abbrev pub byClass : ℕ → Configuration → Configuration → Configuration → Configuration → Configuration → Configuration
@@ -37,9 +37,9 @@ byClass (suc (suc (suc zero))) s d l f g = f
 byClass (suc (suc (suc (suc zero)))) s d l f g = g
 byClass (suc (suc (suc (suc (suc n))))) s d l f g = dead
 
-abbrev pub closed : List ℕ → Configuration
-closed [] = dead
-closed (n ∷ stack) = closing (written n ++ (62 ∷ [])) stack
+abbrev pub closingOf : List ℕ → Configuration
+closingOf [] = dead
+closingOf (n ∷ stack) = closing (written n ++ (62 ∷ [])) stack
 
 abbrev pub closingOn : List ℕ → List ℕ → Configuration
 closingOn [] stack = between stack
@@ -47,11 +47,11 @@ closingOn (c ∷ rest) stack = closing (c ∷ rest) stack
 
 unfoldable pub step : Configuration → ℕ → Configuration
 step (between stack) b = byClass (classOf b) (between stack) dead (tag stack) dead dead
-step (tag stack) b = byClass (classOf b) dead (one (b - 48) stack) dead (closed stack) dead
-step (one d stack) b = byClass (classOf b) dead (stateIf (eqb d 0) dead (two (10 * d + (b - 48)) stack)) dead dead (between (d ∷ stack))
+step (tag stack) b = byClass (classOf b) dead (one (b - 48) stack) dead (closingOf stack) dead
+step (one d stack) b = byClass (classOf b) dead (nextIf (eqb d 0) dead (two (10 * d + (b - 48)) stack)) dead dead (between (d ∷ stack))
 step (two n stack) b = byClass (classOf b) dead dead dead dead (between (n ∷ stack))
 step (closing [] stack) b = dead
-step (closing (c ∷ rest) stack) b = stateIf (eqb b c) (closingOn rest stack) dead
+step (closing (c ∷ rest) stack) b = nextIf (eqb b c) (closingOn rest stack) dead
 step dead b = dead
 
 unfoldable pub steps : Configuration → List ℕ → Configuration

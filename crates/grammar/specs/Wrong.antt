@@ -12,14 +12,14 @@ use Rattle.tags.specs.Classes.{classOf, space}
 use Rattle.grammar.specs.Pushdown.{Configuration, between, tag, one, two, closing, dead, steps, alive}
 
 -- nothing is open
-abbrev pub closed : Configuration → Bool
-closed (between []) = true
-closed (between (n ∷ stack)) = false
-closed (tag stack) = false
-closed (one d stack) = false
-closed (two n stack) = false
-closed (closing rest stack) = false
-closed dead = false
+abbrev pub nothingOpen : Configuration → Bool
+nothingOpen (between []) = true
+nothingOpen (between (n ∷ stack)) = false
+nothingOpen (tag stack) = false
+nothingOpen (one d stack) = false
+nothingOpen (two n stack) = false
+nothingOpen (closing rest stack) = false
+nothingOpen dead = false
 
 abbrev pub onlySpaces : List ℕ → Bool
 onlySpaces [] = true
@@ -31,7 +31,7 @@ begins s = alive (steps (between []) s)
 
 -- whether they are one: "a run of one or more elements"
 unfoldable pub isText : List ℕ → Bool
-isText s = closed (steps (between []) s) && not (onlySpaces s)
+isText s = nothingOpen (steps (between []) s) && not (onlySpaces s)
 
 abbrev pub either : Bool → Bool → Bool → Bool
 either true a b = a

@@ -5,34 +5,20 @@ use native.Mathlib.Omega.{arith}
 use mathlib.Core.Path.{_≡_, refl}
 use mathlib.Core.Bool.{Bool, true, false, _&&_, _||_}
 use lib.Dec.{eqb, leb}
-use borrow.Author.Tests.{eqb-true, leb-true}
+use borrow.Author.Tests.{ne-eqb, le-leb, eqb-true, leb-true}
 use Rattle.tags.specs.Classes.{classOf, pick}
 
 pub digit-class : (d : ℕ) → d < 10 → classOf (48 + d) ≡ 1
 unfolding classOf
-digit-class zero h = refl
-digit-class (suc zero) h = refl
-digit-class (suc (suc zero)) h = refl
-digit-class (suc (suc (suc zero))) h = refl
-digit-class (suc (suc (suc (suc zero)))) h = refl
-digit-class (suc (suc (suc (suc (suc zero))))) h = refl
-digit-class (suc (suc (suc (suc (suc (suc zero)))))) h = refl
-digit-class (suc (suc (suc (suc (suc (suc (suc zero))))))) h = refl
-digit-class (suc (suc (suc (suc (suc (suc (suc (suc zero)))))))) h = refl
-digit-class (suc (suc (suc (suc (suc (suc (suc (suc (suc zero))))))))) h = refl
-digit-class (suc (suc (suc (suc (suc (suc (suc (suc (suc (suc d)))))))))) h = absurd (omega arith)
-
-pub less-class : classOf 60 ≡ 2
-unfolding classOf
-less-class = refl
-
-pub slash-class : classOf 47 ≡ 3
-unfolding classOf
-slash-class = refl
-
-pub greater-class : classOf 62 ≡ 4
-unfolding classOf
-greater-class = refl
+digit-class d h =
+    rw (
+      ne-eqb (48 + d) 9 (λ e. omega arith),
+      ne-eqb (48 + d) 10 (λ e. omega arith),
+      ne-eqb (48 + d) 13 (λ e. omega arith),
+      ne-eqb (48 + d) 32 (λ e. omega arith),
+      le-leb 48 (48 + d) (omega arith),
+      le-leb (48 + d) 57 (omega arith),
+    )
 
 picked : Bool → Bool → Bool → Bool → Bool → ℕ
 picked s d l f g = pick s 0 (pick d 1 (pick l 2 (pick f 3 (pick g 4 5))))

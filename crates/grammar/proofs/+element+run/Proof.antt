@@ -8,7 +8,8 @@ use mathlib.Core.List.{_∷_}
 use lib.ListN.{length}
 use Rattle.grammar.specs.declared.Reading.{Reading}
 use Rattle.grammar.specs.Reading.{Named, PartRead, Filled, ElementRead, RunRead}
-use Rattle.grammar.proofs.Going.{stuck-after, element-read, skipped-elements, elements-on, close-at, less-at, elements-stuck}
+use Rattle.grammar.proofs.Going.{stuck-after}
+use Rattle.grammar.proofs.Parts.{element-read, skipped-elements, elements-on, close-at, less-at, elements-stuck}
 use Rattle.grammar.proofs.Filling.{filled-room, tag-filled, on-filled}
 use borrow.Fn.Kinds.{In}
 use borrow.Fn.PlainCycle.{Measures, is, falls, and}

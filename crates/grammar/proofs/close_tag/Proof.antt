@@ -5,7 +5,7 @@ use mathlib.Core.Bool.{true}
 use Prim.Native.Nat.{_+_, _/_, _%_}
 use lib.Arith.{lt-of-le-ne}
 use Rattle.grammar.specs.Reading.{CloseAt, IsByte}
-use Rattle.grammar.proofs.Going.{early-stuck, byte-no, byte-yes, short-wrong-0, short-wrong-1, short-shut, long-wrong-0, long-wrong-1, long-wrong-2, long-shut}
+use Rattle.grammar.proofs.CloseTags.{early-stuck, byte-no, byte-yes, short-wrong-0, short-wrong-1, short-shut, long-wrong-0, long-wrong-1, long-wrong-2, long-shut}
 use Rattle.grammar.proofs.close_tag.Statement.{statement}
 use Rattle.grammar.proofs.close_tag.Tie as tie
 

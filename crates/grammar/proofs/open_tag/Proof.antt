@@ -6,7 +6,7 @@ use Prim.Native.Nat.{_+_, _<_, _≤_}
 use mathlib.Core.Path.{_≡_, sym, _∙_}
 use lib.ListN.{length, getD}
 use Rattle.grammar.specs.Reading.{classAt}
-use Rattle.grammar.proofs.Going.{first-wrong, first-byte, short, second-wrong, second-byte, third-wrong, long}
+use Rattle.grammar.proofs.OpenTags.{first-wrong, first-byte, short, second-wrong, second-byte, third-wrong, long}
 use Rattle.grammar.proofs.open_tag.Statement.{statement}
 use Rattle.grammar.proofs.open_tag.Tie as tie
 

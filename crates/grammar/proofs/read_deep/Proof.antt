@@ -10,7 +10,7 @@ use Rattle.grammar.specs.Reading.{Named, Closes, Reached}
 use Rattle.grammar.specs.declared.Parse.{Parse}
 use Rattle.grammar.proofs.Decided.{told}
 use Rattle.grammar.proofs.Filling.{end-filled}
-use Rattle.grammar.proofs.Going.{less-at}
+use Rattle.grammar.proofs.Parts.{less-at}
 use Rattle.grammar.proofs.Deep.{positive, reached-first, count-room, reached-open, reached-close, reached-stuck, reached-other, reached-early, reached-right}
 use Rattle.grammar.proofs.read_deep.Statement.{statement}
 use Rattle.grammar.proofs.read_deep.Tie as tie
