@@ -5,15 +5,16 @@ use native.Mathlib.Omega.{arith}
 use mathlib.Core.Path.{_≡_, refl}
 use mathlib.Core.Bool.{Bool, true, false, not}
 use mathlib.Core.List.{List, [], _∷_, _++_}
-use lib.ListN.{length}
+use lib.ListN.{length, getD}
 use borrow.Author.Tests.{lt-ltb, le-ltb, not-true, not-false}
+use Rattle.tags.proofs.ClassLaws.{class-slash}
 use Rattle.tags.specs.Classes.{classOf}
 use Rattle.grammar.specs.Grammar.{written}
 use Rattle.grammar.specs.Pushdown.{between, tag, closing, closingOn, Goes, here}
 use Rattle.grammar.proofs.PushdownLaws.{step-less, step-slash, step-closing}
-use Rattle.grammar.specs.Reading.{IsByte, Stuck, CloseAt, Shut}
+use Rattle.grammar.specs.Reading.{classAt, IsByte, Stuck, CloseAt, Shut}
 use Rattle.tags.proofs.Listed.{short-close-nodes, long-close-nodes}
-use Rattle.grammar.proofs.Going.{trans, stuck-after, stuck-in, go1, root-dead, closing-dead}
+use Rattle.grammar.proofs.Going.{class-in, trans, stuck-after, stuck-in, go1, root-dead, closing-dead}
 
 pub early-stuck : (s : List ℕ) (at n : ℕ) → at ≡ length s → (stack : List ℕ) → Stuck s at (between (n ∷ stack)) at
 early-stuck s at n e stack =
@@ -117,3 +118,7 @@ unfolding classOf
 root-closed s at c =
     stuck-in (tag []) (omega arith) (omega (arith, c .room)) (go1 s at (between []) (omega (arith, c .room)) (rw (c .less) (step-less []))) tt refl
     (λ j. rw (c .slash) (root-dead 47 (λ z. omega arith)))
+
+-- `</` stands at a place
+pub slash-at : (s : List ℕ) (at : ℕ) → getD s at 0 ≡ 60 → classAt s (at + 1) ≡ 3 → CloseAt s at
+slash-at s at e f = let k = class-in s (at + 1) 3 f (omega arith) in record { room = k .0; less = e; slash = class-slash _ (k .1) }

@@ -15,6 +15,7 @@ use Rattle.blocks.specs.declared.Found.{Found}
 use Rattle.blocks.proofs.Laws.{lowest-at, lowest-nothing}
 use Rattle.refusal.proofs.Passed.{clash, and-is-true}
 use Rattle.tags.specs.Classes.{classOf}
+use Rattle.tags.proofs.ClassLaws.{space-less}
 use Rattle.grammar.specs.Grammar.{Elements, empty, element, Spaces, none, more, Writes, blank, tagged, Text, OneOrMore, Begins, WrongAt, openTag, closeTag}
 use Rattle.grammar.specs.Pushdown.{Configuration, between, tag, one, two, closing, dead, step, steps, alive, Alive}
 use Rattle.grammar.specs.Wrong.{nothingOpen, onlySpaces, begins, isText, wrongAt, wrongPlace}
@@ -111,13 +112,17 @@ less-in (tagged {s = s} {x = x} {y = y} n h k wx wy) o = less-at s n (x ++ (clos
     less-at s n z =
         (length s + 0, simp length-append (omega arith), getD-append-add s (openTag n ++ z) 0 0)
 
-less-no-space : 0 ≡ classOf 60 → ⊥
-unfolding classOf
-less-no-space z = omega arith
-
 some : (s : List ℕ) (r : Elements) → onlySpaces s ≡ false → Writes s r → OneOrMore r
 some s empty e (blank h) = let z : true ≡ false = sym (spaces-only h) ∙ e in clash (cc)
 some s (element n x y) e w = tt
+
+-- where a byte is no space
+pub some-at : (s : List ℕ) (i : ℕ) (r : Elements) → i < length s → (classOf (getD s i 0) ≡ 0 → ⊥) → Writes s r → OneOrMore r
+some-at s i r h k w = go (onlySpaces s) refl
+  where
+    go : (t : Bool) → onlySpaces s ≡ t → OneOrMore r
+    go true e = absurd (k (only-each s e i h))
+    go false e = some s r e w
 
 pub text-true : (s : List ℕ) → isText s ≡ true → (r : Elements) × Text s r
 unfolding isText
@@ -130,7 +135,7 @@ pub text-false : (s : List ℕ) → isText s ≡ false → (r : Elements) → Te
 unfolding isText
 text-false s e r t =
     let i = less-in (t .writes) (t .some) in
-    go (onlySpaces s) refl (λ h. less-no-space (sym (only-each s h (i .0) (i .1)) ∙ ap classOf (i .2))) (rw (text-steps (t .writes)) at e)
+    go (onlySpaces s) refl (λ h. space-less _ (only-each s h (i .0) (i .1)) (i .2)) (rw (text-steps (t .writes)) at e)
   where
     go : (b : Bool) → onlySpaces s ≡ b → (onlySpaces s ≡ true → ⊥) → not (onlySpaces s) ≡ false → ⊥
     go true h k f = k h

@@ -2,6 +2,7 @@
 -- Assumes nothing.
 use Prim.Native.Nat.{ℕ, zero, suc, _+_, _-_, _<_, _≤_}
 use native.Mathlib.Omega.{arith}
+use native.Mathlib.Nat.{pos-of-ne-zero}
 use native.Mathlib.Numerals.{add-one}
 use mathlib.Core.Path.{_≡_, refl, ap, _∙_}
 use mathlib.Core.Bool.{Bool, true, false}
@@ -9,44 +10,30 @@ use mathlib.Core.List.{List, [], _∷_}
 use lib.Dec.{eqb}
 use lib.Arith.{lt-of-le-ne}
 use lib.ListN.{length, getD, set, length-set}
+use lib.Seq.{getD-set-same, getD-set-other}
 use borrow.Author.Tests.{eqb-true, eqb-false}
-use Rattle.tags.proofs.ClassLaws.{class-slash}
 use Rattle.grammar.specs.Grammar.{Elements, Text, WrongAt}
 use Rattle.grammar.specs.Pushdown.{between, Goes}
 use Rattle.grammar.specs.Reading.{classAt, Stuck, Skipped, CloseAt, Named, CloseRead, openIn, Closes, StepRead, closedBy, openedBy, OpenRead, Reached}
 use Rattle.grammar.specs.declared.Opening.{Opening}
 use Rattle.grammar.specs.declared.Closing.{Closing}
-use Rattle.grammar.proofs.Going.{trans, stuck-after, stuck-in, class-in, class-of-at, between-dead}
-use Rattle.grammar.proofs.CloseTags.{root-closed}
+use Rattle.grammar.proofs.Going.{trans, stuck-after}
+use Rattle.grammar.proofs.CloseTags.{early-stuck, root-closed}
+use Rattle.grammar.proofs.Parts.{stray-stuck}
 use Rattle.grammar.proofs.Filling.{filled-room, tag-filled, on-filled, nothing-filled}
 use Rattle.grammar.proofs.Whole.{stuck-wrong, goes-right}
 
-pub positive : (n : ℕ) → (n ≡ 0 → ⊥) → 1 ≤ n
-positive zero h = absurd (h refl)
-positive (suc n) h = omega arith
-
 -- ---- the list of numbers
-
-get-set : (l : List ℕ) (i v : ℕ) → i < length l → getD (set l i v) i 0 ≡ v
-get-set [] i v h = absurd (omega arith)
-get-set (x ∷ l) zero v h = refl
-get-set (x ∷ l) (suc i) v h = get-set l i v (omega arith)
-
-get-below : (l : List ℕ) (i j v : ℕ) → j < i → getD (set l i v) j 0 ≡ getD l j 0
-get-below [] i j v h = refl
-get-below (x ∷ l) zero j v h = absurd (omega arith)
-get-below (x ∷ l) (suc i) zero v h = refl
-get-below (x ∷ l) (suc i) (suc j) v h = get-below l i j v (omega arith)
 
 open-below : (l : List ℕ) (i d v : ℕ) → d ≤ i → openIn (set l i v) d ≡ openIn l d
 open-below l i zero v h = refl
 open-below l i (suc d) v h =
-    ap (λ (n : ℕ). n ∷ openIn (set l i v) d) (get-below l i d v (omega arith)) ∙ ap (λ (r : List ℕ). getD l d 0 ∷ r) (open-below l i d v (omega arith))
+    ap (λ (n : ℕ). n ∷ openIn (set l i v) d) (getD-set-other l i d v 0 (λ e. omega arith)) ∙ ap (λ (r : List ℕ). getD l d 0 ∷ r) (open-below l i d v (omega arith))
 
 pushed : (l : List ℕ) (d v : ℕ) → d < length l → openIn (set l d v) (d + 1) ≡ v ∷ openIn l d
 pushed l d v h =
     ap (openIn (set l d v)) (add-one d)
-    ∙ ap (λ (n : ℕ). n ∷ openIn (set l d v) d) (get-set l d v h) ∙ ap (λ (r : List ℕ). v ∷ r) (open-below l d d v (omega arith))
+    ∙ ap (λ (n : ℕ). n ∷ openIn (set l d v) d) (getD-set-same l d v 0 h) ∙ ap (λ (r : List ℕ). v ∷ r) (open-below l d d v (omega arith))
 
 popped : (l : List ℕ) (d : ℕ) → (d ≡ 0 → ⊥) → openIn l d ≡ getD l (d - 1) 0 ∷ openIn l (d - 1)
 popped l zero h = absurd (h refl)
@@ -62,9 +49,6 @@ pub closed-read : (s : List ℕ) (at : ℕ) (l : List ℕ) (depth : ℕ) (x : Cl
     → StepRead s at l depth (closedBy x)
 closed-read s at l depth (Closing.To r) k h = record { some = k; shut = h }
 closed-read s at l depth (Closing.Wrong place) k h = rw (popped l depth k) (h (openIn l (depth - 1)))
-
-pub slash-at : (s : List ℕ) (at : ℕ) → getD s at 0 ≡ 60 → classAt s (at + 1) ≡ 3 → CloseAt s at
-slash-at s at e f = let k = class-in s (at + 1) 3 f (omega arith) in record { room = k .0; less = e; slash = class-slash _ (k .1) }
 
 -- where nothing is open
 pub closes-nothing : (s : List ℕ) (at : ℕ) (l : List ℕ) (depth : ℕ) → CloseAt s at → depth ≡ 0 → Stuck s at (between (openIn l depth)) (at + 1)
@@ -111,16 +95,16 @@ module _ {s numbers nodes : List ℕ} {next depth count : ℕ} (h : Reached s ne
         where
           go : (t : Bool) → eqb i depth ≡ t → getD (set numbers depth n) i 0 < 100
           go true e =
-              rw (eqb-true i depth e, get-set numbers depth n (omega (arith, h .numbered .long, h .numbered .deep))) (k .small)
+              rw (eqb-true i depth e, getD-set-same numbers depth n 0 (omega (arith, h .numbered .long, h .numbered .deep))) (k .small)
           go false e =
               let le : i ≤ depth = omega arith in
               let lt = lt-of-le-ne le (eqb-false i depth e) in
-              rw (get-below numbers depth i n lt) (h .numbered .small i lt)
+              rw (getD-set-other numbers depth i n 0 (eqb-false i depth e)) (h .numbered .small i lt)
 
   pub reached-close : {after r : ℕ} → Closes s next numbers depth after → Skipped s after r
       → Reached s r numbers (depth - 1) (count + 1) (set nodes count 0)
   reached-close {after} {r} k m =
-      let p = positive depth (k .some) in
+      let p = pos-of-ne-zero (k .some) in
       record {
         to = m .to;
         ends = m .ends;
@@ -137,23 +121,11 @@ module _ {s numbers nodes : List ℕ} {next depth count : ℕ} (h : Reached s ne
 
   -- a byte that is no tag
   pub reached-other : next < length s → (classAt s next ≡ 2 → ⊥) → WrongAt s next
-  reached-other l k =
-      stuck-wrong
-      (record {
-        from = omega arith;
-        to = h .to;
-        state = between (openIn numbers depth);
-        goes = h .goes;
-        alive = tt;
-        stop = λ m. between-dead _ (openIn numbers depth) (h .ends l) (λ e. k (class-of-at s next l ∙ e));
-        early = λ e f. absurd (omega arith);
-      })
+  reached-other l k = stuck-wrong (stray-stuck (omega arith) (h .goes) (h .ends l) l k)
 
   -- an element is open
   pub reached-early : next ≡ length s → (depth ≡ 0 → ⊥) → WrongAt s next
-  reached-early e k =
-      let g : Goes s 0 (between []) next (between (getD numbers (depth - 1) 0 ∷ openIn numbers (depth - 1))) = rw (popped numbers depth k) at (h .goes) in
-      stuck-wrong (stuck-in _ (omega arith) (h .to) g tt refl (λ m. absurd (omega arith)))
+  reached-early e k = reached-stuck (rw (popped numbers depth k) (early-stuck s next (getD numbers (depth - 1) 0) e (openIn numbers (depth - 1))))
 
   pub reached-right : {first : ℕ} → Skipped s 0 first → first < length s → next ≡ length s → depth ≡ 0 → (r : Elements) × Text s r
   reached-right f l e d =

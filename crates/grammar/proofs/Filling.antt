@@ -1,28 +1,23 @@
 -- The list of nodes after one tag more, and past what is no tag.
 -- Assumes nothing.
-use Prim.Native.Nat.{ℕ, zero, suc, _+_, _<_, _≤_}
+use Prim.Native.Nat.{ℕ, suc, _+_, _<_, _≤_}
 use native.Mathlib.Omega.{arith}
 use native.Mathlib.Numerals.{add-one}
 use mathlib.Core.Path.{_≡_, refl, sym, ap, _∙_}
 use mathlib.Core.List.{List, [], _∷_, _++_}
 use lib.ListN.{length, getD, take, drop, set, length-drop, length-set}
-use lib.Seq.{take-suc, take-all}
+use lib.Seq.{take-suc, take-suc-set, take-all}
 use Rattle.blocks.proofs.Stores.{first}
 use Rattle.tags.specs.Tags.{nodesIn}
 use Rattle.tags.proofs.Listed.{nodes-end}
 use Rattle.grammar.specs.Reading.{Filled}
-
-take-set : (l : List ℕ) (i v : ℕ) → i < length l → take (suc i) (set l i v) ≡ take i l ++ (v ∷ [])
-take-set [] i v h = absurd (omega arith)
-take-set (x ∷ l) zero v h = refl
-take-set (x ∷ l) (suc i) v h = ap (λ (t : List ℕ). x ∷ t) (take-set l i v (omega arith))
 
 -- one node more: what a list has at its front, and what is left of the nodes
 stored : (nodes all rest : List ℕ) (count n : ℕ) → count < length nodes → take count nodes ≡ take count all → drop count all ≡ n ∷ rest
     → (take (count + 1) (set nodes count n) ≡ take (count + 1) all) × (drop (count + 1) all ≡ rest) × (count < length all)
 stored nodes all rest count n h done left =
     let f = first all count n rest left in
-    let a : take (suc count) (set nodes count n) ≡ take count nodes ++ (n ∷ []) = take-set nodes count n h in
+    let a : take (suc count) (set nodes count n) ≡ take count nodes ++ (n ∷ []) = take-suc-set nodes count n h in
     let b : take (suc count) all ≡ take count all ++ (getD all count 0 ∷ []) = take-suc all count 0 (f .0) in
     (rw (add-one count, a, b, f .1, done), f .2, f .0)
 

@@ -1,12 +1,15 @@
 -- The pushdown automaton over an element and over a run, from their parts.
 -- Assumes nothing.
-use Prim.Native.Nat.{ℕ, _+_, _<_}
+use Prim.Native.Nat.{ℕ, _+_, _<_, _≤_}
 use native.Mathlib.Omega.{arith}
 use mathlib.Core.Path.{_≡_, refl, _∙_}
 use mathlib.Core.List.{List, _∷_}
 use lib.ListN.{length, getD}
-use Rattle.grammar.specs.Pushdown.{between}
-use Rattle.tags.proofs.ClassLaws.{class-less, class-slash}
+use lib.Arith.{lt-of-le-ne}
+use Rattle.tags.specs.Classes.{classOf}
+use Rattle.grammar.proofs.CloseTags.{slash-at}
+use Rattle.grammar.specs.Pushdown.{Configuration, Goes, between}
+use Rattle.tags.proofs.ClassLaws.{class-less}
 use Rattle.grammar.specs.Reading.{classAt, Stuck, Skipped, CloseAt, Passed, PartRead, RunPassed, Filled, ElementRead, Named, CloseRead, shutBy}
 use Rattle.grammar.specs.declared.Closing.{Closing}
 use Rattle.grammar.proofs.Going.{trans, stuck-after, class-in, class-of-at, between-dead}
@@ -45,25 +48,30 @@ elements-on h k m =
       ends = m .ends;
     }
 
-pub close-at : (s : List ℕ) (at : ℕ) → classAt s at ≡ 2 → classAt s (at + 1) ≡ 3 → CloseAt s at
-close-at s at e f =
-    let h = class-in s at 2 e (omega arith) in
-    let k = class-in s (at + 1) 3 f (omega arith) in
-    record { room = k .0; less = class-less _ (h .1); slash = class-slash _ (k .1) }
-
 pub less-at : (s : List ℕ) (at : ℕ) → classAt s at ≡ 2 → (at < length s) × (getD s at 0 ≡ 60)
 less-at s at e = let h = class-in s at 2 e (omega arith) in (h .0, class-less _ (h .1))
 
+pub close-at : (s : List ℕ) (at : ℕ) → classAt s at ≡ 2 → classAt s (at + 1) ≡ 3 → CloseAt s at
+close-at s at e f = slash-at s at (less-at s at e .1) f
+
+-- between tags, a byte that is neither a space nor a `<`
+pub stray-stuck :
+    {s : List ℕ} {at r : ℕ} {q : Configuration} {stack : List ℕ} → at ≤ r → Goes s at q r (between stack) → (classOf (getD s r 0) ≡ 0 → ⊥) → r < length s →
+    (classAt s r ≡ 2 → ⊥) → Stuck s at q r
+stray-stuck {s} {at} {r} {q} {stack} from goes ends inside other =
+    record {
+      from = from;
+      to = omega arith;
+      state = between stack;
+      goes = goes;
+      alive = tt;
+      stop = λ l. between-dead _ stack ends (λ e. other (class-of-at s r l ∙ e));
+      early = λ e f. absurd (omega arith);
+    }
+
 pub elements-stuck :
     {s : List ℕ} {at r : ℕ} → PartRead s at r → (classAt s r ≡ 2 → ⊥) → (r ≡ length s → ⊥) → (stack : List ℕ) → Stuck s at (between stack) r
-elements-stuck {s} {at} {r} h k n stack =
+elements-stuck h k n stack =
     let p = h .passed in
-    record {
-      from = p .from;
-      to = p .to;
-      state = between stack;
-      goes = p .goes stack;
-      alive = tt;
-      stop = λ l. between-dead _ stack (h .ends l) (λ e. k (class-of-at s r l ∙ e));
-      early = λ e f. n e;
-    }
+    let l = lt-of-le-ne (p .to) n in
+    stray-stuck (p .from) (p .goes stack) (h .ends l) l k

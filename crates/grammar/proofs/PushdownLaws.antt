@@ -2,6 +2,7 @@
 -- Assumes nothing.
 use Prim.Native.Nat.{ℕ, zero, suc, _+_, _-_, _*_, _/_, _%_, _<_, _≤_}
 use native.Mathlib.Omega.{arith}
+use native.Mathlib.Nat.{pos-of-ne-zero}
 use mathlib.Core.Path.{_≡_, refl, sym, ap, _∙_}
 use mathlib.Core.Bool.{Bool, true, false}
 use mathlib.Core.List.{List, [], _∷_, _++_, append-assoc, append-nil}
@@ -168,14 +169,10 @@ second-digit p d stack b h e true k = tt
 second-digit p d stack b h e false k =
     let c = class-digit b e in
     let f : d ≡ 0 → ⊥ = eqb-false d 0 k in
-    let g : 0 < d = omega (arith, pos d f) in
+    let g : 0 < d = pos-of-ne-zero f in
     let m : 48 + (b - 48) ≡ b = omega arith in
     let o = open-long (10 * d + (b - 48)) d (b - 48) (omega arith) (omega arith) (omega arith) in
     (h .0, h .1, omega arith, rw (h .3, o, m) (simp append-assoc))
-  where
-    pos : (k : ℕ) → (k ≡ 0 → ⊥) → 0 < k
-    pos zero f = absurd (f refl)
-    pos (suc k) f = omega arith
 
 closing-byte :
     (p : List ℕ) (c : ℕ) (rest stack : List ℕ) (b : ℕ) → Reached p (closing (c ∷ rest) stack) →

@@ -1,17 +1,17 @@
 -- From places to whole texts.
 -- Assumes nothing.
-use Prim.Native.Nat.{ℕ, zero, suc, _+_, _<_}
+use Prim.Native.Nat.{ℕ, _+_, _<_}
 use native.Mathlib.Omega.{arith}
 use mathlib.Core.Path.{_≡_, refl, sym, ap, _∙_}
 use mathlib.Core.List.{List, []}
-use lib.ListN.{length, getD, take}
+use lib.ListN.{length, take}
 use lib.Seq.{take-length}
 use lib.Arith.{lt-of-le-ne}
-use Rattle.tags.specs.Classes.{classOf}
-use Rattle.grammar.specs.Grammar.{Elements, empty, element, Spaces, none, more, Writes, blank, Text, OneOrMore, WrongAt}
+use Rattle.tags.proofs.ClassLaws.{space-less}
+use Rattle.grammar.specs.Grammar.{Elements, blank, Text, WrongAt}
 use Rattle.grammar.specs.Pushdown.{Configuration, between, steps, Goes, here, on}
 use Rattle.grammar.proofs.PushdownLaws.{alive-begins, between-writes}
-use Rattle.grammar.proofs.Decided.{next-steps, wrong-there, less-in}
+use Rattle.grammar.proofs.Decided.{next-steps, wrong-there, less-in, some-at}
 use Rattle.grammar.specs.Reading.{Stuck, Skipped, RunPassed}
 use Rattle.grammar.proofs.Going.{trans, stuck-after}
 use Rattle.grammar.proofs.CloseTags.{root-closed}
@@ -32,13 +32,7 @@ stuck-wrong {s} {p} h = wrong-there s p (h .state) (h .to) (from-start (h .goes)
 
 -- ---- texts of spaces only
 
-spaces-each : {s : List ℕ} → Spaces s → (i : ℕ) → i < length s → classOf (getD s i 0) ≡ 0
-spaces-each none i h = absurd (omega arith)
-spaces-each (more b e k) zero h = e
-spaces-each (more b e k) (suc i) h = spaces-each k i (omega arith)
-
 pub spaces-wrong : {s : List ℕ} {p : ℕ} → p ≡ length s → Skipped s 0 p → WrongAt s p
-unfolding classOf
 spaces-wrong {s} {p} e h =
     let g = from-start (h .goes []) in
     record {
@@ -48,26 +42,17 @@ spaces-wrong {s} {p} e h =
       no-text =
           λ r t.
           let i = less-in (t .writes) (t .some) in
-          let k = h .blank (i .0) (omega arith) (omega arith) in
-          clash (sym k ∙ ap classOf (i .2));
+          space-less _ (h .blank (i .0) (omega arith) (omega arith)) (i .2);
     }
-  where
-    clash : 0 ≡ classOf 60 → ⊥
-    clash z = omega arith
 
 -- ---- the whole text
-
--- a run of spaces, or with an element
-some : (s : List ℕ) (i : ℕ) (r : Elements) → i < length s → (classOf (getD s i 0) ≡ 0 → ⊥) → Writes s r → OneOrMore r
-some s i empty h k (blank b) = k (spaces-each b i h)
-some s i (element n x y) h k w = tt
 
 -- the automaton reads the whole text, with nothing open at its end
 pub goes-right :
     {s : List ℕ} {first end : ℕ} → Skipped s 0 first → first < length s → Goes s 0 (between []) end (between []) → end ≡ length s → (r : Elements) × Text s r
 goes-right {s} {first} {end} h l g e =
     let w = between-writes s (sym (ap (steps (between [])) (ap (λ (n : ℕ). take n s) e ∙ take-length s)) ∙ from-start g) in
-    (w .0, record { writes = w .1; some = some s first (w .0) l (h .ends l) (w .1) })
+    (w .0, record { writes = w .1; some = some-at s first (w .0) l (h .ends l) (w .1) })
 
 pub text-right :
     {s : List ℕ} {first end : ℕ} → Skipped s 0 first → (first ≡ length s → ⊥) → RunPassed s first end → end ≡ length s → (r : Elements) × Text s r

@@ -1,6 +1,6 @@
 -- The nodes of a text from a place on.
 -- Assumes nothing.
-use Prim.Native.Nat.{ℕ, zero, suc, _+_, _-_, _*_, _<_, _≤_}
+use Prim.Native.Nat.{ℕ, suc, _+_, _-_, _*_, _<_, _≤_}
 use native.Mathlib.Omega.{arith}
 use native.Mathlib.Numerals.{add-one}
 use mathlib.Core.Path.{_≡_, refl, sym, ap, _∙_}
@@ -15,11 +15,6 @@ use Rattle.tags.specs.Tags.{digitOf, tagBefore, andTag, tagsIn, tagAt, n
 use Rattle.tags.specs.declared.Tag.{Tag}
 use Rattle.tags.specs.declared.Tag.the-variants.{Opens as opens, Closes as closes}
 use Rattle.tags.proofs.ClassLaws.{digit-class, class-digit}
-
-pub past : (s : List ℕ) (at : ℕ) → length s ≤ at → getD s at 0 ≡ 0
-past [] at h = refl
-past (x ∷ s) zero h = absurd (omega arith)
-past (x ∷ s) (suc at) h = past s at (omega arith)
 
 at-drop : (s : List ℕ) (i k : ℕ) → getD (drop (suc i) s) k 0 ≡ getD s (i + 1 + k) 0
 at-drop s i k = getD-drop (suc i) s k 0 ∙ ap (λ (n : ℕ). getD s n 0) (omega arith)

@@ -2,8 +2,9 @@
 -- Assumes nothing.
 use borrow.Author.Needs.{needs}
 use native.Mathlib.Omega.{arith}
-use Prim.Native.Nat.{ℕ, zero, suc, _+_, _-_, _*_, _<_, _≤_}
-use mathlib.Core.Path.{_≡_, refl, sym, _∙_}
+use native.Mathlib.Nat.{pos-of-ne-zero}
+use Prim.Native.Nat.{ℕ, _+_, _-_, _*_, _<_}
+use mathlib.Core.Path.{sym, _∙_}
 use mathlib.Core.List.{_∷_}
 use lib.ListN.{length}
 use Rattle.grammar.specs.declared.Reading.{Reading}
@@ -51,10 +52,6 @@ element-calls t = (open-tag-reads.Asked, open-tag-reads.Learnt, run-below t, run
 abbrev run-calls : ℕ → run-lts.Claims
 run-calls t = (skip-reads.Asked, skip-reads.Learnt, class-at-reads.Asked, class-at-reads.Learnt, element-below t, element.Post)
 
-some-levels : (n : ℕ) → (n ≡ 0 → ⊥) → 1 ≤ n
-some-levels zero h = absurd (h refl)
-some-levels (suc n) h = omega arith
-
 -- the opening tag that was read
 named : (t : ℕ) (c : element-lts.After-known-told2 (element-calls t) (element-at t) element.Post) →
     Named (c .before .before .before .before .before .before .args .text .now) (c .before .before .before .before .before .before .args .at) (c .before .number .given .0 .0) (c .before .number .given .0 .1 .0)
@@ -84,7 +81,7 @@ element-add-count : (t : ℕ) → element-lts.Need-add-count (element-calls t) (
 element-add-count t c = let q = c .before .before .before .before .before .before .before .pre .1 in let h = filled-room (q .1 .1) (omega (arith, q .0 .0)) in omega arith
 
 element-sub-run : (t : ℕ) → element-lts.Need-sub-run (element-calls t) (element-at t) element.Post
-element-sub-run t c = some-levels _ (c .before .before .before .before .before .before .before .if1 .left)
+element-sub-run t c = pos-of-ne-zero (c .before .before .before .before .before .before .before .if1 .left)
 
 element-run-requires : (t : ℕ) → element-lts.Need-run-requires (element-calls t) (element-at t) element.Post
 element-run-requires t c κs =

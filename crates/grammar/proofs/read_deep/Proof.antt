@@ -2,6 +2,7 @@
 -- Assumes nothing.
 use borrow.Author.Needs.{needs}
 use native.Mathlib.Omega.{arith}
+use native.Mathlib.Nat.{pos-of-ne-zero}
 use Prim.Native.Nat.{_-_}
 use mathlib.Core.Path.{_≡_, refl, sym, ap, _∙_}
 use lib.ListN.{length}
@@ -11,7 +12,7 @@ use Rattle.grammar.specs.declared.Parse.{Parse}
 use Rattle.grammar.proofs.Decided.{told}
 use Rattle.grammar.proofs.Filling.{end-filled}
 use Rattle.grammar.proofs.Parts.{less-at}
-use Rattle.grammar.proofs.Deep.{positive, reached-first, count-room, reached-open, reached-close, reached-stuck, reached-other, reached-early, reached-right}
+use Rattle.grammar.proofs.Deep.{reached-first, count-room, reached-open, reached-close, reached-stuck, reached-other, reached-early, reached-right}
 use Rattle.grammar.proofs.read_deep.Statement.{statement}
 use Rattle.grammar.proofs.read_deep.Tie as tie
 
@@ -83,7 +84,7 @@ add-count-2 : tie.Need-add-count-2 Inv-loop μ-loop
 add-count-2 c = let h = count-room (c .before .before .before .before .before .before .before .loop .inv) in omega arith
 
 sub-depth : tie.Need-sub-depth Inv-loop μ-loop
-sub-depth c = positive _ (closes c .some)
+sub-depth c = pos-of-ne-zero (closes c .some)
 
 skip-requires-2 : tie.Need-skip-requires-2 Inv-loop μ-loop
 skip-requires-2 c κs = (closes c .shut .to, c .before .before .before .before .before .before .before .before .before .pre .1)

@@ -2,8 +2,10 @@
 -- Assumes nothing.
 use borrow.Author.Needs.{needs}
 use native.Mathlib.Omega.{arith}
+use native.Mathlib.Nat.{pos-of-ne-zero}
 use mathlib.Core.Path.{sym, _∙_}
-use Rattle.grammar.proofs.Deep.{positive, opened-read, closed-read, slash-at, closes-nothing}
+use Rattle.grammar.proofs.Deep.{opened-read, closed-read, closes-nothing}
+use Rattle.grammar.proofs.CloseTags.{slash-at}
 use Rattle.grammar.proofs.read_tag.Statement.{statement}
 use Rattle.grammar.proofs.read_tag.Tie as tie
 
@@ -37,7 +39,7 @@ element-copy-out-close-tag c = search needs
 close-tag-requires : tie.Need-close-tag-requires
 close-tag-requires c κs =
     let q = c .before .before .before .before .before in
-    let p = positive (q .args .depth) (c .before .if2 .left) in
+    let p = pos-of-ne-zero (c .before .if2 .left) in
     (omega (arith, q .pre .0 .0), (λ l. slash-at _ _ (q .pre .0 .1) (sym (c .before .before .before .class-at .ensures) ∙ c .before .before .if1 .left)), q .pre .0 .2 .small _ (omega arith))
 
 closed-requires : tie.Need-closed-requires

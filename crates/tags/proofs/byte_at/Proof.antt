@@ -2,7 +2,7 @@
 -- Assumes nothing.
 use borrow.Author.Needs.{needs}
 use mathlib.Core.Path.{sym}
-use Rattle.tags.proofs.Listed.{past}
+use lib.ListN.{List·getD-eq-default}
 use Rattle.tags.proofs.byte_at.Statement.{statement}
 use Rattle.tags.proofs.byte_at.Tie as tie
 
@@ -13,7 +13,7 @@ returns : tie.Need-returns
 returns c = search needs
 
 returns-2 : tie.Need-returns-2
-returns-2 c = let a = c .before .args in sym (past (a .text .now) (a .at) (c .if1 .left))
+returns-2 c = let a = c .before .args in sym (List·getD-eq-default (a .text .now) 0 (c .if1 .left))
 
 pub byte-at-spec : {M : Type 1} → statement M
 byte-at-spec = tie.close (tie.spec shared-slice-read-result returns returns-2)
