@@ -1,7 +1,7 @@
 -- The links of a tree are the model's: of each node its parent's number, its place, and of a branch its right part's number.
 -- Assumes nothing.
 use mathlib.Core.Path.{_≡_, refl, sym, ap, _∙_}
-use mathlib.Core.List.{List, [], _∷_, _++_}
+use mathlib.Core.List.{List, [], _∷_, _++_, append-nil}
 use Prim.Native.Nat.{ℕ, suc, _+_, _<_}
 use native.Mathlib.Nat.{add-zero}
 use native.Mathlib.Omega.{arith}
@@ -10,7 +10,9 @@ use lib.ListN.{length, getD, length-append, List·getD-append}
 use lib.Seq.{getD-append-add}
 use Rattle.model.specs.declared.Side.the-variants.{Left, Right}
 use Rattle.model.specs.declared.Place.the-variants.{Root}
-use Rattle.model.specs.Trees.{Tree, leaf, node, size}
+use Rattle.model.specs.Trees.{Tree, leaf, node, symbol, size}
+use Rattle.nodes.specs.Preorder.{preorder}
+use Rattle.nodes.proofs.Standing.{size-preorder}
 use Rattle.model.specs.Runs.{Position, place}
 use Rattle.links.specs.Links.{parentsFrom, rightsFrom, parentsOf, rightsOf, placeIn}
 use Rattle.links.specs.Linked.{ParentOf, Linked}
@@ -45,6 +47,7 @@ record Part (t : Tree) (j : ℕ) (α : Position) (u : Tree) : Type 0 where
   side : (P : List ℕ) → getD P j 0 ≡ up → placeIn P j ≡ place Root α
   parents : (k : ℕ) → k < size u → getD (parentsOf t) (j + k) 0 ≡ getD (parentsFrom up j u) k 0
   rights : (k : ℕ) → k < size u → getD (rightsOf t) (j + k) 0 ≡ getD (rightsFrom j u) k 0
+  symbols : (k : ℕ) → k < size u → getD (preorder t) (j + k) 0 ≡ getD (preorder u) k 0
   positions : (k : ℕ) → k < size u → getD (positionsFrom [] t) (j + k) [] ≡ getD (positionsFrom α u) k []
 
 module _ {A : Type 0} (f : ℕ → A) (j : ℕ) where
@@ -55,7 +58,7 @@ module _ {A : Type 0} (f : ℕ → A) (j : ℕ) where
   on-right n k = ap f (let e : j + 1 + n + k ≡ j + suc (n + k) = omega arith in e)
 
 part : {t u : Tree} {j : ℕ} {α : Position} → Numbered t j α u → Part t j α u
-unfolding parentsFrom rightsFrom positionsFrom placeIn
+unfolding parentsFrom rightsFrom positionsFrom placeIn preorder
 part {t} first =
     record {
       up = 0;
@@ -63,6 +66,7 @@ part {t} first =
       side = λ P e. refl;
       parents = λ k h. ap (λ (n : ℕ). getD (parentsOf t) n 0) (let e : 0 + k ≡ k = omega arith in e);
       rights = λ k h. ap (λ (n : ℕ). getD (rightsOf t) n 0) (let e : 0 + k ≡ k = omega arith in e);
+      symbols = λ k h. ap (λ (n : ℕ). getD (preorder t) n 0) (let e : 0 + k ≡ k = omega arith in e);
       positions = λ k h. ap (λ (n : ℕ). getD (positionsFrom [] t) n []) (let e : 0 + k ≡ k = omega arith in e);
     }
 part {t} (to-left {i = j} {α = α} {σ = σ} {l = l} {r = r} n) =
@@ -70,6 +74,7 @@ part {t} (to-left {i = j} {α = α} {σ = σ} {l = l} {r = r} n) =
     let p = parents-length j (j + 1) l in
     let q = rights-length (j + 1) l in
     let s = positions-length (Left ∷ α) l in
+    let o = size-preorder l in
     record {
       up = j;
       parent = (_, n);
@@ -78,6 +83,8 @@ part {t} (to-left {i = j} {α = α} {σ = σ} {l = l} {r = r} n) =
           ∙ left-part 0 (d .up) (parentsFrom j (j + 1) l) (parentsFrom j (j + 1 + size l) r) (suc k) k refl (omega arith);
       rights = λ k h. on-left (λ (i : ℕ). getD (rightsOf t) i 0) j k ∙ d .rights (suc k) (omega arith)
           ∙ left-part 0 (j + 1 + size l) (rightsFrom (j + 1) l) (rightsFrom (j + 1 + size l) r) (suc k) k refl (omega arith);
+      symbols = λ k h. on-left (λ (i : ℕ). getD (preorder t) i 0) j k ∙ d .symbols (suc k) (omega arith)
+          ∙ left-part 0 σ (preorder l) (preorder r) (suc k) k refl (omega arith);
       positions = λ k h. on-left (λ (i : ℕ). getD (positionsFrom [] t) i []) j k ∙ d .positions (suc k) (omega arith)
           ∙ left-part [] α (positionsFrom (Left ∷ α) l) (positionsFrom (Right ∷ α) r) (suc k) k refl (omega arith);
     }
@@ -86,6 +93,7 @@ part {t} (to-right {i = j} {α = α} {σ = σ} {l = l} {r = r} n) =
     let p = parents-length j (j + 1) l in
     let q = rights-length (j + 1) l in
     let s = positions-length (Left ∷ α) l in
+    let o = size-preorder l in
     record {
       up = j;
       parent = (_, n);
@@ -94,6 +102,8 @@ part {t} (to-right {i = j} {α = α} {σ = σ} {l = l} {r = r} n) =
           ∙ right-part 0 (d .up) (parentsFrom j (j + 1) l) (parentsFrom j (j + 1 + size l) r) (suc (size l + k)) k (omega arith);
       rights = λ k h. on-right (λ (i : ℕ). getD (rightsOf t) i 0) j (size l) k ∙ d .rights (suc (size l + k)) (omega arith)
           ∙ right-part 0 (j + 1 + size l) (rightsFrom (j + 1) l) (rightsFrom (j + 1 + size l) r) (suc (size l + k)) k (omega arith);
+      symbols = λ k h. on-right (λ (i : ℕ). getD (preorder t) i 0) j (size l) k ∙ d .symbols (suc (size l + k)) (omega arith)
+          ∙ right-part 0 σ (preorder l) (preorder r) (suc (size l + k)) k (omega arith);
       positions = λ k h. on-right (λ (i : ℕ). getD (positionsFrom [] t) i []) j (size l) k ∙ d .positions (suc (size l + k)) (omega arith)
           ∙ right-part [] α (positionsFrom (Left ∷ α) l) (positionsFrom (Right ∷ α) r) (suc (size l + k)) k (omega arith);
     }
@@ -105,10 +115,19 @@ unfolding parentsFrom
 head-parent up j (leaf σ) = refl
 head-parent up j (node σ l r) = refl
 
+head-symbol : (u : Tree) → getD (preorder u) 0 0 ≡ symbol u
+unfolding preorder
+head-symbol (leaf σ) = refl
+head-symbol (node σ l r) = refl
+
 head-position : (α : Position) (u : Tree) → getD (positionsFrom α u) 0 [] ≡ α
 unfolding positionsFrom
 head-position α (leaf σ) = refl
 head-position α (node σ l r) = refl
+
+head-leaf : (j σ : ℕ) → getD (rightsFrom j (leaf σ)) 0 0 ≡ 0
+unfolding rightsFrom
+head-leaf j σ = refl
 
 head-right : (j σ : ℕ) (l r : Tree) → getD (rightsFrom j (node σ l r)) 0 0 ≡ j + 1 + size l
 unfolding rightsFrom
@@ -118,12 +137,17 @@ module _ {t u : Tree} {j : ℕ} {α : Position} (n : Numbered t j α u) where
   parent-is : getD (parentsOf t) j 0 ≡ part n .up
   parent-is = rw add-zero at (part n .parents 0 (some-nodes u)) ∙ head-parent (part n .up) j u
 
+  pub symbol-is : getD (preorder t) j 0 ≡ symbol u
+  symbol-is = rw add-zero at (part n .symbols 0 (some-nodes u)) ∙ head-symbol u
+
   position-is : getD (positionsFrom [] t) j [] ≡ α
   position-is = rw add-zero at (part n .positions 0 (some-nodes u)) ∙ head-position α u
 
+  rights-here : (v : Tree) → u ≡ v → getD (rightsOf t) j 0 ≡ getD (rightsFrom j v) 0 0
+  rights-here v e = rw add-zero at (part n .rights 0 (some-nodes u)) ∙ ap (λ (x : Tree). getD (rightsFrom j x) 0 0) e
+
   right-is : (σ : ℕ) (l r : Tree) → u ≡ node σ l r → getD (rightsOf t) j 0 ≡ j + 1 + size l
-  right-is σ l r e =
-      rw add-zero at (part n .rights 0 (some-nodes u)) ∙ ap (λ (v : Tree). getD (rightsFrom j v) 0 0) e ∙ head-right j σ l r
+  right-is σ l r e = rights-here (node σ l r) e ∙ head-right j σ l r
 
 -- a number names one position, and one subtree
 pub named-once : {t u v : Tree} {i : ℕ} {α β : Position} → Numbered t i α u → Numbered t i β v → (α ≡ β) × (u ≡ v)
@@ -144,4 +168,9 @@ linked {t} {u} {i} {α} parents rights n =
       parent = rw p (part n .parent);
       place-is = part n .side (parentsOf t ++ parents) p;
       right = λ σ l r e. let m : Numbered t i α (node σ l r) = rw e at n in rw (q, right-is n σ l r e) (to-right m);
+      no-right = λ σ e. q ∙ rights-here n (leaf σ) e ∙ head-leaf i σ;
     }
+
+-- so have the tree's own links
+pub linked-own : {t u : Tree} {i : ℕ} {α : Position} → Numbered t i α u → Linked t (parentsOf t) (rightsOf t) i α u
+linked-own {t} n = rw (append-nil (parentsOf t), append-nil (rightsOf t)) at (linked [] [] n)
