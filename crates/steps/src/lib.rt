@@ -26,7 +26,7 @@ pub enum Successor {
 pub type ChoiceTable = [u8; 2304];
 
 // The lowest of a set that is not empty.
-fn lowest(set: u32) -> u8
+pub fn lowest(set: u32) -> u8
     ensures { λ r. ⌜ (r ≡ lowestOf set) × (r ≤ 32) ⌝ }
 {
     u32::trailing_zeros(set) as u8

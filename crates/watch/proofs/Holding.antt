@@ -1,0 +1,92 @@
+-- What the code holds of two files that were read is what following the run asks.
+-- Assumes nothing.
+use Prim.Native.Nat.{ℕ, zero, suc, _*_, _^_, _≤_, _<_}
+use native.Mathlib.Omega.{arith}
+use native.Mathlib.Nat.{mul-le-mul}
+use mathlib.Core.Path.{_≡_, refl, sym, ap, ap₂, _∙_, subst}
+use mathlib.Core.List.{List, [], _∷_, _++_, append-nil}
+use lib.Count.{ones}
+use lib.ListN.{length, getD, drop, List·getD-append, length-append}
+use Rattle.relation.specs.Lowest.{lowestOf}
+use Rattle.model.specs.Trees.{Tree, size}
+use Rattle.algorithms.specs.Automaton.{Automaton, In, Proper}
+use Rattle.automaton.specs.declared.Header.{Header}
+use Rattle.transitions.specs.Compiled.{Compiled}
+use Rattle.nodes.specs.Preorder.{preorder, Below, Stands}
+use Rattle.nodes.proofs.Signatures.{shaped-over}
+use Rattle.nodes.proofs.Standing.{size-preorder, stands}
+use Rattle.links.specs.Links.{parentsOf, rightsOf}
+use Rattle.links.proofs.Storing.{parents-length, rights-length}
+use Rattle.steps.specs.Choices.{Chosen}
+use Rattle.membership.specs.Judged.{signatureOf}
+use Rattle.watch.specs.Walk.{mostSteps}
+use Rattle.watch.specs.Following.{Walkable, Held}
+use Rattle.watch.proofs.Starts.{one-lowest, starts-low}
+
+pub below-at : (m : ℕ) (s : List ℕ) → Below m s → (i : ℕ) → i < length s → getD s i 0 < m
+unfolding Below
+below-at m [] h i l = absurd (omega arith)
+below-at m (σ ∷ s) h zero l = h .0
+below-at m (σ ∷ s) h (suc i) l = below-at m s (h .1) i (omega arith)
+
+-- links at the front of a table
+module _ (front table rest : List ℕ) (n : ℕ) (long : length front ≡ n) (e : table ≡ front ++ rest) where
+  pub front-long : n ≤ length table
+  front-long = omega (arith, ap length e, length-append front rest)
+
+  pub front-at : (i : ℕ) → i < n → getD table i 0 ≡ getD front i 0
+  front-at i h = rw e (List·getD-append front rest 0 i (omega arith))
+
+module _ {h : Header} {table s : List ℕ} (held : Held h table s) where
+  abbrev A : Automaton
+  A = held .automaton
+
+  abbrev t : Tree
+  t = held .tree
+
+  pub nodes-long : length s ≡ size t
+  nodes-long = ap length (held .writes .text) ∙ size-preorder t
+
+  pub tree-stands : Stands (h .branches) s 0 t
+  tree-stands =
+      let shape = shaped-over (signatureOf A) t (held .writes .over) .0 in
+      subst (λ (b : ℕ). Stands b s 0 t) (held .headed .branches)
+      (stands (A .branches) s 0 t [] shape (held .writes .text ∙ sym (append-nil (preorder t))))
+
+  pub most-low : length s * h .states < 2 ^ 64
+  most-low = let m : length s * h .states ≤ 4096 * 24 = mul-le-mul (held .few) (held .limits .0) in omega (arith, m)
+
+  pub symbols-low : h .symbols ≤ 32
+  symbols-low = held .limits .1
+
+  pub symbols-below : Below (A .symbols) s
+  symbols-below = subst (Below (A .symbols)) (sym (held .writes .text)) (shaped-over (signatureOf A) t (held .writes .over) .1)
+
+  abbrev pub walkable : (P R codes before before′ : List ℕ) → ones (h .initial) ≡ 1
+      → ((B : Automaton) → Proper B → Compiled B table → Chosen (h .symbols) (B .next) codes)
+      → (P ≡ parentsOf t ++ drop (size t) before) × (R ≡ rightsOf t ++ drop (size t) before′)
+      → Walkable (h .accepting) (length s * h .states) (lowestOf (h .initial)) s codes P R
+  walkable P R codes before before′ one choices links =
+      let proper = held .headed .tabled .proper in
+      let initial = held .headed .initial in
+      let counted : ones (A .initial) ≡ 1 = ap ones initial ∙ one in
+      let start : In (A .initial) (lowestOf (A .initial)) = one-lowest (A .initial) (starts-low A proper) counted .0 in
+      let parents = parents-length 0 0 t in
+      let rights = rights-length 0 t in
+      record {
+        automaton = A;
+        tree = t;
+        proper = proper;
+        few-symbols = omega (arith, held .headed .symbols, symbols-low);
+        chosen = subst (λ (m : ℕ). Chosen m (A .next) codes) (sym (held .headed .symbols)) (choices A proper (held .headed .tabled .compiled));
+        accepting-is = held .headed .accepting;
+        starts = subst (λ (x : ℕ). lowestOf x < A .states) initial (proper .initials _ start);
+        limit = ap₂ _*_ (sym nodes-long) (held .headed .tabled .states);
+        few-nodes = omega (arith, nodes-long, held .few);
+        nodes-are = held .writes .text;
+        symbols = λ i l. below-at (A .symbols) s symbols-below i (omega (arith, nodes-long));
+        parents-long = front-long (parentsOf t) P _ (size t) parents (links .0);
+        parents-are = front-at (parentsOf t) P _ (size t) parents (links .0);
+        rights-long = front-long (rightsOf t) R _ (size t) rights (links .1);
+        rights-are = front-at (rightsOf t) R _ (size t) rights (links .1);
+      }

@@ -1,0 +1,12 @@
+pub mod Turns
+pub mod Logs
+pub mod Going
+pub mod Checking
+pub mod Starts
+pub mod Holding
+pub mod Telling
+pub mod Rounds
+pub mod Configurations
+pub mod Ways
+pub mod Watching
+pub mod Right
