@@ -8,6 +8,7 @@ use refusal::Check;
 use tally::Outcome;
 use tally::Tallied;
 use tally::Tally;
+use watch::Watched;
 ghost use mathlib.Core.Path.{_≡_};
 ghost use Rattle.membership.specs.Judged.{judged};
 ghost use Rattle.membership.specs.Demand2.{Demand2};
@@ -28,6 +29,8 @@ ghost use Rattle.canonical.specs.Canonical.{canonicalOf};
 ghost use Rattle.canonical.specs.Promise as canonical-spec;
 ghost use Rattle.markup.specs.Written.{markupOf};
 ghost use Rattle.markup.specs.Promise as markup-spec;
+ghost use Rattle.watch.specs.Watch.{outcome, watchOf};
+ghost use Rattle.watch.specs.Promise as watch-spec;
 
 // Whether an automaton's file accepts a tree's file.
 pub fn judge(automaton: &[u8], tree: &[u8]) -> Answer
@@ -83,6 +86,15 @@ pub fn markup(file: &[u8], text: &[u8], out: &mut [u8]) -> Written
     ensures right { λ r. ⌜ markup-spec.Promise (now (file .entry)) (now (text .entry)) (now (out .entry)) (filled r (now (out .exit))) ⌝ }
 {
     markup::write(file, text, out)
+}
+
+// Follows the run of an automaton's file on a tree's file, for at most so many steps; an entry of three bytes for each configuration goes to the
+// front of the log. The automaton is single and has one start state.
+pub fn watch(automaton: &[u8], tree: &[u8], budget: usize, log: &mut [u8]) -> Watched
+    ensures equals { λ r. ⌜ outcome r (now (log .exit)) ≡ watchOf (now (automaton .entry)) (now (tree .entry)) budget (now (log .entry)) ⌝ }
+    ensures right { λ r. ⌜ watch-spec.Promise (now (automaton .entry)) (now (tree .entry)) budget (now (log .entry)) (outcome r (now (log .exit))) ⌝ }
+{
+    watch::watch(automaton, tree, budget, log)
 }
 
 // The lent tally counts one outcome more; or, where it is full, stays as it was, and refusal 14 is the answer.

@@ -7,6 +7,7 @@ use emptiness::Quick;
 use emptiness::Survey;
 use membership::Answer;
 use tally::Tally;
+use watch::Watched;
 ghost use mathlib.Core.Path.{_≡_};
 ghost use Rattle.membership.specs.Judged.{judged};
 ghost use Rattle.membership.specs.Demand2.{Demand2};
@@ -27,7 +28,9 @@ ghost use Rattle.canonical.specs.Canonical.{canonicalOf};
 ghost use Rattle.canonical.specs.Promise as canonical-spec;
 ghost use Rattle.markup.specs.Written.{markupOf};
 ghost use Rattle.markup.specs.Promise as markup-spec;
-ghost use Rattle.numbering.specs.Numbers.{answerNumber, answerTold, surveyNumber, surveyTold, quickNumber, quickTold, singleNumber, singleTold, writtenNumber, writtenTold, outcomeNumbered, tallyOf, tallyNumbers, checkNumber, checkTold, judgedTally};
+ghost use Rattle.watch.specs.Watch.{outcome, watchOf};
+ghost use Rattle.watch.specs.Promise as watch-spec;
+ghost use Rattle.numbering.specs.Numbers.{answerNumber, answerTold, surveyNumber, surveyTold, quickNumber, quickTold, singleNumber, singleTold, writtenNumber, writtenTold, watchNumber, watchTold, outcomeNumbered, tallyOf, tallyNumbers, checkNumber, checkTold, judgedTally};
 
 // Whether an automaton's file accepts a tree's file.
 #[no_mangle]
@@ -114,6 +117,24 @@ pub extern "C" fn engine_markup(
         × markup-spec.Promise (now (file .entry)) (now (text .entry)) (now (out .entry)) (filled a (now (out .exit)))) ⌝ }
 {
     numbering::put_written(crate::markup(file, text, out), told)
+}
+
+// Follows the run of a single automaton with one start state on a tree, and logs it at the front of the buffer.
+#[no_mangle]
+pub extern "C" fn engine_watch(
+    automaton: &[u8],
+    tree: &[u8],
+    budget: usize,
+    log: &mut [u8],
+    told: &mut [usize; 3],
+) -> u32
+    ensures equals { λ r. ⌜ (r ≡ watchNumber (watchOf (now (automaton .entry)) (now (tree .entry)) budget (now (log .entry)) .answer))
+        × (now (told .exit) ≡ watchTold (watchOf (now (automaton .entry)) (now (tree .entry)) budget (now (log .entry)) .answer))
+        × (now (log .exit) ≡ watchOf (now (automaton .entry)) (now (tree .entry)) budget (now (log .entry)) .log) ⌝ }
+    ensures right { λ r. ⌜ ((a : Watched) × (r ≡ watchNumber a) × (now (told .exit) ≡ watchTold a)
+        × watch-spec.Promise (now (automaton .entry)) (now (tree .entry)) budget (now (log .entry)) (outcome a (now (log .exit)))) ⌝ }
+{
+    numbering::put_watched(crate::watch(automaton, tree, budget, log), told)
 }
 
 // One outcome more on a tally of three numbers: accepted, other, refused.

@@ -1,6 +1,6 @@
 -- Answers as numbers, for programs in other languages: of each the number that is answered, and the three numbers told with it.
 -- Interface: `refusalTold`, `answerNumber`, `answerTold`, `surveyNumber`, `surveyTold`, `quickNumber`, `quickTold`, `singleNumber`, `singleTold`,
--- `writtenNumber`, `writtenTold`, `outcomeNumbered`, `tallyOf`, `tallyNumbers`, `checkNumber`, `checkTold`, `judgedTally`.
+-- `writtenNumber`, `writtenTold`, `watchNumber`, `watchTold`, `outcomeNumbered`, `tallyOf`, `tallyNumbers`, `checkNumber`, `checkTold`, `judgedTally`.
 use Prim.Native.Nat.{ℕ, zero, suc}
 use mathlib.Core.List.{List, [], _∷_}
 use lib.ListN.{getD}
@@ -13,6 +13,7 @@ use Rattle.emptiness.specs.declared.Survey.{Survey}
 use Rattle.emptiness.specs.declared.Quick.{Quick}
 use Rattle.tally.specs.declared.Outcome.{Outcome}
 use Rattle.tally.specs.declared.Tally.{Tally}
+use Rattle.watch.specs.declared.Watched.{Watched}
 
 -- nothing is told
 abbrev pub none : List ℕ
@@ -76,6 +77,21 @@ writtenNumber (Written.Refused r) = 1
 abbrev pub writtenTold : Written → List ℕ
 writtenTold (Written.Bytes n) = n ∷ 0 ∷ 0 ∷ []
 writtenTold (Written.Refused r) = refusalTold r
+
+-- watching: the steps made
+abbrev pub watchNumber : Watched → ℕ
+watchNumber (Watched.Passed n) = 0
+watchNumber (Watched.Stuck n) = 1
+watchNumber (Watched.Circling n) = 2
+watchNumber (Watched.Spent n) = 3
+watchNumber (Watched.Refused r) = 4
+
+abbrev pub watchTold : Watched → List ℕ
+watchTold (Watched.Passed n) = n ∷ 0 ∷ 0 ∷ []
+watchTold (Watched.Stuck n) = n ∷ 0 ∷ 0 ∷ []
+watchTold (Watched.Circling n) = n ∷ 0 ∷ 0 ∷ []
+watchTold (Watched.Spent n) = n ∷ 0 ∷ 0 ∷ []
+watchTold (Watched.Refused r) = refusalTold r
 
 -- counting: an outcome, and a tally, by their numbers; whether the outcome was counted
 unfoldable pub outcomeNumbered : ℕ → Outcome

@@ -9,8 +9,9 @@ use refusal::Check;
 use refusal::Refusal;
 use tally::Outcome;
 use tally::Tally;
+use watch::Watched;
 ghost use mathlib.Core.Path.{_≡_};
-ghost use Rattle.numbering.specs.Numbers.{refusalTold, answerNumber, answerTold, surveyNumber, surveyTold, quickNumber, quickTold, singleNumber, singleTold, writtenNumber, writtenTold, outcomeNumbered, tallyNumbers, checkNumber, checkTold};
+ghost use Rattle.numbering.specs.Numbers.{refusalTold, answerNumber, answerTold, surveyNumber, surveyTold, quickNumber, quickTold, singleNumber, singleTold, writtenNumber, writtenTold, watchNumber, watchTold, outcomeNumbered, tallyNumbers, checkNumber, checkTold};
 
 fn put_refusal(refusal: Refusal, told: &mut [usize; 3])
     ensures { λ _. ⌜ now (told .exit) ≡ refusalTold refusal ⌝ }
@@ -103,6 +104,34 @@ pub fn put_written(answer: Written, told: &mut [usize; 3]) -> u32
         Written::Refused(refusal) => {
             put_refusal(refusal, told);
             1
+        }
+    }
+}
+
+// 0 passed (steps), 1 stuck (steps), 2 circling (steps), 3 spent (steps), 4 refused.
+pub fn put_watched(answer: Watched, told: &mut [usize; 3]) -> u32
+    ensures { λ r. ⌜ (r ≡ watchNumber answer) × (now (told .exit) ≡ watchTold answer) ⌝ }
+{
+    match answer {
+        Watched::Passed(steps) => {
+            *told = [steps, 0, 0];
+            0
+        }
+        Watched::Stuck(steps) => {
+            *told = [steps, 0, 0];
+            1
+        }
+        Watched::Circling(steps) => {
+            *told = [steps, 0, 0];
+            2
+        }
+        Watched::Spent(steps) => {
+            *told = [steps, 0, 0];
+            3
+        }
+        Watched::Refused(refusal) => {
+            put_refusal(refusal, told);
+            4
         }
     }
 }
