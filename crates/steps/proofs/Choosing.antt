@@ -3,7 +3,7 @@
 use Prim.Native.Nat.{ℕ, zero, suc, _+_, _-_, _*_, _/_, _%_, _^_, _≤_, _<_}
 use native.Mathlib.Nat.{lt-of-lt-of-le}
 use native.Mathlib.Omega.{arith}
-use mathlib.Core.Path.{_≡_, refl, sym, ap, _∙_}
+use mathlib.Core.Path.{_≡_, refl, ap, _∙_}
 use mathlib.Core.List.{List}
 use lib.ListN.{length, getD, set}
 use lib.Seq.{getD-set-same, getD-set-other}
@@ -21,7 +21,7 @@ use Rattle.model.specs.declared.Move.the-variants.{Stay, Up, Down}
 use Rattle.algorithms.specs.Automaton.{Automaton, Proper}
 use Rattle.automaton.specs.Payload.{moveByte}
 use Rattle.transitions.specs.Transitions.{placeNumber}
-use Rattle.transitions.specs.Compiled.{cellOf, Compiled}
+use Rattle.transitions.specs.Compiled.{Compiled}
 use Rattle.steps.specs.Choices.{Choice, Makes, Halts, orElse, firstOf, choice, codeOf, decoded, choiceCell, codeAt, Chosen}
 use Rattle.steps.specs.Successors.{goes}
 use Rattle.steps.specs.declared.Successor.{Successor}

@@ -1,12 +1,9 @@
 -- The step by node numbers is the model's `Step` between positions; of a deterministic automaton it is the only one.
 -- Assumes nothing.
-use Prim.Native.Nat.{ℕ, zero, suc, _+_, _^_, _≤_, _<_}
+use Prim.Native.Nat.{ℕ, zero, suc, _+_, _^_, _<_}
 use native.Mathlib.Omega.{arith}
-use native.Mathlib.Nat.{lt-of-lt-of-le}
 use mathlib.Core.Path.{_≡_, refl, sym, ap, _∙_, subst}
-use mathlib.Core.Bool.{Bool, true, false}
-use mathlib.Core.List.{List, [], _∷_}
-use lib.Dec.{eqb}
+use mathlib.Core.List.{[], _∷_}
 use lib.ListN.{getD}
 use borrow.Author.Tests.{eq-eqb, ne-eqb}
 use Rattle.relation.specs.Bit.{bit}
@@ -20,20 +17,17 @@ use Rattle.model.specs.declared.Place.the-variants.{Root}
 use Rattle.model.specs.declared.Move.{Move}
 use Rattle.model.specs.declared.State.{State}
 use Rattle.model.specs.declared.Move.the-variants.{Stay, Up, Down}
-use Rattle.model.specs.Trees.{Tree, leaf, node, symbol, size}
+use Rattle.model.specs.Trees.{Tree, leaf, node, symbol}
 use Rattle.model.specs.Runs.{Position, place, Config, Step, stays, climbs, descends, Deterministic}
 use Rattle.model.proofs.Positions.{at-unique}
 use Rattle.algorithms.specs.Automaton.{Automaton, In, Δ, Proper}
-use Rattle.nodes.specs.Preorder.{preorder}
-use Rattle.links.specs.Numbers.{Numbered, to-left, to-right, first}
-use Rattle.links.specs.Links.{parentsOf, rightsOf, placeIn}
-use Rattle.links.specs.Linked.{ParentOf, Linked}
+use Rattle.links.specs.Numbers.{Numbered, to-left, first}
+use Rattle.links.specs.Links.{parentsOf, rightsOf}
 use Rattle.links.proofs.Numbering.{numbered-at, number-unique}
 use Rattle.links.proofs.Linking.{linked-own, symbol-is, named-once}
 use Rattle.steps.specs.Choices.{Choice, Makes, Halts, orElse, firstOf, choice}
 use Rattle.steps.specs.Successors.{to, goes, successor}
-use Rattle.steps.specs.declared.Successor.{Successor}
-use Rattle.steps.specs.declared.Successor.the-variants.{To, Nowhere}
+use Rattle.steps.specs.declared.Successor.the-variants.{Nowhere}
 use Rattle.steps.proofs.Choosing.{transitions-low}
 
 clash : {X : Type 0} → _≡_ {A = ℕ} 0 1 → X

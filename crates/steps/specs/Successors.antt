@@ -1,4 +1,4 @@
--- One step by node numbers: "node numbers are preorder indexes from 0" (DECISIONS, W7). `Stepping` has the law that it is the model's.
+-- One step by node numbers, which are preorder indexes from 0 (DECISIONS, W7). `Stepping` has the law that it is the model's.
 -- Interface: `goes`, `successorIn`, `successor`.
 use Prim.Native.Nat.{ℕ, _+_}
 use mathlib.Core.Bool.{Bool, true, false}

@@ -14,7 +14,7 @@ use borrow.Author.Tests.{eq-eqb, ne-eqb, lt-ltb, le-ltb, eqb-true, ltb-false, no
 use Rattle.algorithms.specs.Automaton.{Automaton}
 use Rattle.refusal.specs.Checks.{refused, refuseIf, _andThen_}
 use Rattle.refusal.specs.declared.Check.{Check}
-use Rattle.refusal.specs.declared.Check.the-variants.{Passed, Refused}
+use Rattle.refusal.specs.declared.Check.the-variants.{Passed}
 use Rattle.refusal.specs.declared.Fault.{Fault}
 use Rattle.refusal.proofs.Passed.{clash, both-passed, if-passed}
 use Rattle.determinism.specs.Single.{singleIf}

@@ -16,7 +16,6 @@ use Rattle.model.specs.declared.Place.the-variants.{Root}
 use Rattle.model.specs.Trees.{Tree, size}
 use Rattle.model.specs.Runs.{Config, Step, stays, climbs, descends}
 use Rattle.algorithms.specs.Automaton.{Automaton, Δ, Proper}
-use Rattle.nodes.specs.Preorder.{preorder}
 use Rattle.nodes.proofs.Standing.{size-preorder}
 use Rattle.links.specs.Links.{parentsOf, rightsOf, placeIn}
 use Rattle.links.proofs.Numbering.{some-nodes, numbered-within, all-named}

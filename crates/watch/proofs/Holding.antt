@@ -3,7 +3,7 @@
 use Prim.Native.Nat.{ℕ, zero, suc, _*_, _^_, _≤_, _<_}
 use native.Mathlib.Omega.{arith}
 use native.Mathlib.Nat.{mul-le-mul}
-use mathlib.Core.Path.{_≡_, refl, sym, ap, ap₂, _∙_, subst}
+use mathlib.Core.Path.{_≡_, sym, ap, ap₂, _∙_, subst}
 use mathlib.Core.List.{List, [], _∷_, _++_, append-nil}
 use lib.Count.{ones}
 use lib.ListN.{length, getD, drop, List·getD-append, length-append}
@@ -19,7 +19,6 @@ use Rattle.links.specs.Links.{parentsOf, rightsOf}
 use Rattle.links.proofs.Storing.{parents-length, rights-length}
 use Rattle.steps.specs.Choices.{Chosen}
 use Rattle.membership.specs.Judged.{signatureOf}
-use Rattle.watch.specs.Walk.{mostSteps}
 use Rattle.watch.specs.Following.{Walkable, Held}
 use Rattle.watch.proofs.Starts.{one-lowest, starts-low}
 

@@ -10,3 +10,4 @@ pub mod Configurations
 pub mod Ways
 pub mod Watching
 pub mod Right
+pub mod Examples

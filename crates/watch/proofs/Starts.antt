@@ -5,10 +5,9 @@ use native.Mathlib.Nat.{mod-lt, lt-of-lt-of-le}
 use native.Mathlib.Omega.{arith}
 use native.Mathlib.Decide.{ℕ-discrete}
 use mathlib.Core.Path.{_≡_, refl, sym, ap, _∙_, subst}
-use mathlib.Core.List.{List, [], _∷_}
+use mathlib.Core.List.{[], _∷_}
 use lib.Count.{ones, ones-le, ones-step, ones-cat}
 use lib.Pow.{pow-pos, pow-mono, split}
-use Rattle.relation.specs.Bit.{bit}
 use Rattle.relation.specs.Lowest.{lowestOf}
 use Rattle.relation.specs.Rows.{has, bitsOf, countOf}
 use Rattle.relation.proofs.BitLaws.{bit-zero, bit-below, lt-of-bits}

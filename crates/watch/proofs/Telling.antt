@@ -1,10 +1,10 @@
 -- The answer and the log from the parts: of a node list, of a tree's file, of both files.
 -- Assumes nothing.
 use Prim.Native.Nat.{ℕ}
-use mathlib.Core.Path.{_≡_, refl, sym, ap, ap₂, _∙_, subst}
+use mathlib.Core.Path.{_≡_, sym, ap, ap₂, _∙_, subst}
 use mathlib.Core.Bool.{Bool}
 use mathlib.Core.List.{List}
-use lib.ListN.{length, take}
+use lib.ListN.{length}
 use Rattle.relation.specs.Lowest.{lowestOf}
 use Rattle.model.specs.Trees.{Tree}
 use Rattle.model.specs.declared.Signature.{Signature}
@@ -25,7 +25,7 @@ use Rattle.tree.specs.declared.file.ParsedTree.{ParsedTree}
 use Rattle.tree.proofs.Reading.{TreeRead}
 use Rattle.overloops.specs.Ready.{Headed}
 use Rattle.membership.specs.Judged.{signatureOf}
-use Rattle.watch.specs.Walk.{Walk, walk}
+use Rattle.watch.specs.Walk.{walk}
 use Rattle.watch.specs.Checks.{watchCheck}
 use Rattle.watch.specs.Watch.{Outcome, outcome, watchTree, watchBy, watchOf}
 use Rattle.watch.specs.Following.{Followed, Held}

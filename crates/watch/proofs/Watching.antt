@@ -1,11 +1,12 @@
 -- The laws of document 02's W7, of the walk of a single automaton with one start state. The quotations are of W7. `Right` has them of files.
 -- Assumes nothing.
-use Prim.Native.Nat.{ℕ, zero, suc, _+_, _*_, _/_, _%_, _≤_, _<_}
+use Prim.Native.Nat.{ℕ, _+_, _*_, _≤_, _<_}
 use native.Mathlib.Omega.{arith}
-use mathlib.Core.Path.{_≡_, refl, sym, ap, _∙_, subst}
+use mathlib.Core.Path.{_≡_, refl, ap, _∙_, subst}
 use mathlib.Core.Logic.{_↔_}
 use mathlib.Core.List.{List, [], _∷_, _++_}
-use lib.ListN.{length, getD, drop}
+use lib.ListN.{length, take, drop}
+use lib.Seq.{take-at, drop-at}
 use Rattle.model.specs.declared.Place.the-variants.{Root}
 use Rattle.model.specs.Trees.{Tree}
 use Rattle.model.specs.Runs.{Position, Config, Run, Deterministic}
@@ -13,9 +14,9 @@ use Rattle.algorithms.specs.Automaton.{Automaton, In, Δ, Accepted, Proper}
 use Rattle.refusal.specs.declared.Refusal.{Refusal}
 use Rattle.refusal.proofs.Passed.{clash}
 use Rattle.links.specs.Numbers.{Numbered, first}
-use Rattle.watch.specs.Walk.{Entry, Walk, mostSteps, walkFrom, walk, bytesOf}
+use Rattle.watch.specs.Walk.{Entry, mostSteps, walkFrom, walk, bytesOf}
 use Rattle.watch.specs.Watch.{logAfter}
-use Rattle.watch.specs.Promise.{stepsOf, Passing, Halted, Logged, stands, steps, Stopped, passed, stuck, circling, spent}
+use Rattle.watch.specs.Promise.{Passing, Halted, Logged, stands, steps, Stopped, passed, stuck, circling, spent}
 use Rattle.watch.specs.declared.Watched.{Watched}
 use Rattle.watch.proofs.Turns.{by-turns}
 use Rattle.watch.proofs.Logs.{bytes-length}
@@ -59,21 +60,21 @@ module _ (A : Automaton) (proper : Proper A) (det : Deterministic (Δ A)) (t : T
   from-start : (a : Accepted A t) → Run (Δ A) Root t ([], start) ([], a .1)
   from-start a = subst (λ (q : ℕ). Run (Δ A) Root t ([], q) ([], a .1)) (only (a .0) (a .2)) (a .4)
 
-  -- "Passed implies the letter is accepted; ..
+  -- "Passed implies the letter is accepted" ..
   pub passed-accepted : (n : ℕ) → walk A t start budget .answer ≡ Watched.Passed n → Accepted A t
   passed-accepted n e =
       let w = walk-walked in
       let h = stood-passing (w .stopped) e in
       (start, w .last .1, starts, h .1, subst (λ (α : Position). Run (Δ A) Root t ([], start) (α, w .last .1)) (h .0) (logged-run A t (w .run)))
 
-  -- .. Stuck ..
+  -- .. "Stuck" ..
   pub stuck-rejected : (n : ℕ) → walk A t start budget .answer ≡ Watched.Stuck n → ¬ Accepted A t
   stuck-rejected n e a =
       let w = walk-walked in
       let h = stood-halted (w .stopped) e in
       halted-rejects A t det (w .run) (h .0) (h .1) (refl, a .3) (from-start a)
 
-  -- .. and Circling imply it isn't"
+  -- .. "and Circling imply it isn't"
   pub circling-rejected : (n : ℕ) → walk A t start budget .answer ≡ Watched.Circling n → ¬ Accepted A t
   circling-rejected n e a = circling-rejects A t proper det budget start n (proper .initials start starts) e (a .1) (a .3) (from-start a)
 
@@ -93,6 +94,14 @@ module _ (A : Automaton) (proper : Proper A) (det : Deterministic (Δ A)) (t : T
       by (Watched.Refused r) e a = absurd (not-refused A t budget 0 0 start r e)
 
 -- ---- the log
+
+-- its front has the entries' bytes ..
+pub log-front : (es : List Entry) (log : List ℕ) → take (3 * length es) (logAfter es log) ≡ bytesOf es
+log-front es log = take-at (bytesOf es) (drop (3 * length es) log) (3 * length es) (bytes-length es)
+
+-- .. and "bytes after the log are unchanged": there is one entry more than steps, so that these are the bytes from 3 × (steps + 1) on
+pub log-rest : (es : List Entry) (log : List ℕ) → drop (3 * length es) (logAfter es log) ≡ drop (3 * length es) log
+log-rest es log = drop-at (bytesOf es) (drop (3 * length es) log) (3 * length es) (bytes-length es)
 
 -- the last entry is where the walk stands
 pub last-stands : {A : Automaton} {t : Tree} {c d : Config} {es : List Entry} → Logged A t c es d

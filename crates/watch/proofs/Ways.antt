@@ -3,7 +3,7 @@
 use Prim.Native.Nat.{ℕ, zero, suc, _+_, _≤_, _<_}
 use native.Mathlib.Omega.{arith}
 use mathlib.Core.Path.{_≡_, refl, sym, ap, _∙_, subst}
-use mathlib.Core.Bool.{Bool, true, false, _&&_}
+use mathlib.Core.Bool.{Bool, true, false}
 use mathlib.Core.List.{List, []}
 use lib.Dec.{eqb}
 use lib.ListN.{length}
@@ -11,7 +11,7 @@ use borrow.Author.Tests.{eqb-true, eq-eqb}
 use Rattle.relation.specs.Sets.{member, member-has}
 use Rattle.model.specs.declared.Place.the-variants.{Root}
 use Rattle.model.specs.Trees.{Tree, size}
-use Rattle.model.specs.Runs.{Position, Config, done, _then_, Step, Run, Deterministic}
+use Rattle.model.specs.Runs.{Position, Config, done, _then_, Run, Deterministic}
 use Rattle.model.proofs.Deterministic.{step-unique}
 use Rattle.algorithms.specs.Automaton.{Automaton, In, Δ, Proper}
 use Rattle.refusal.proofs.Passed.{clash, and-is-true}
@@ -20,7 +20,6 @@ use Rattle.links.proofs.Numbering.{number-unique}
 use Rattle.links.proofs.Linking.{named-once}
 use Rattle.steps.specs.Successors.{to, successor}
 use Rattle.steps.specs.declared.Successor.{Successor}
-use Rattle.steps.specs.declared.Successor.the-variants.{Nowhere}
 use Rattle.steps.proofs.Stepping.{step-led, led-step, no-step}
 use Rattle.watch.specs.Walk.{Entry, Walk, passes, mostSteps, walkFrom}
 use Rattle.watch.specs.Promise.{stepsOf, Passing, Halted, Moving, Logged, stands, steps, Stopped, passed, stuck, circling, spent}

@@ -2,10 +2,10 @@
 -- Interface: `stepsOf`, `Passing`, `Halted`, `Moving`, `Logged`, `Stopped`, `Watches`, `Promise`.
 use mathlib.Core.Path.{_≡_}
 use mathlib.Core.List.{List, [], _∷_}
-use Prim.Native.Nat.{ℕ, _+_, _*_, _≤_, _<_}
+use Prim.Native.Nat.{ℕ, _+_, _≤_, _<_}
 use lib.ListN.{length}
 use Rattle.model.specs.declared.Place.the-variants.{Root}
-use Rattle.model.specs.Trees.{Tree, size}
+use Rattle.model.specs.Trees.{Tree}
 use Rattle.model.specs.Runs.{Position, Config, Step, Deterministic}
 use Rattle.algorithms.specs.Automaton.{Automaton, In, Δ, Accepted}
 use Rattle.blocks.specs.Blocks.{content}

@@ -19,16 +19,6 @@ use transitions::TransitionTable;
 use tree::file::ParsedTree;
 use tree::file::read_tree;
 ghost use mathlib.Core.Path.{_≡_};
-
-// How the run ended, with the steps made; or a refusal.
-pub enum Watched {
-    Passed(usize),
-    Stuck(usize),
-    Circling(usize),
-    Spent(usize),
-    Refused(Refusal),
-}
-
 ghost use Prim.Native.Nat.{_<_, _≤_};
 ghost use lib.Count.{ones};
 ghost use lib.ListN.{length};
@@ -42,6 +32,15 @@ ghost use Rattle.watch.specs.Checks.{logLength, watchCheck};
 ghost use Rattle.watch.specs.Watch.{outcome, watchTree, watchBy, watchOf};
 ghost use Rattle.watch.specs.Promise.{Promise};
 ghost use Rattle.watch.specs.Following.{Followed, Held};
+
+// How the run ended, with the steps made; or a refusal.
+pub enum Watched {
+    Passed(usize),
+    Stuck(usize),
+    Circling(usize),
+    Spent(usize),
+    Refused(Refusal),
+}
 
 // Refusals 20, 21, 22 and 13, of an automaton by its header and compiled transitions.
 fn watch_check(header: Header, table: &TransitionTable, budget: usize, room: usize) -> Check

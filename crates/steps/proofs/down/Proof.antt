@@ -1,6 +1,6 @@
 -- `steps::down` meets its contract: the byte is one of a move down.
 -- Assumes nothing.
-use borrow.Author.Tests.{eq-eqb, ne-eqb, lt-ltb, le-ltb}
+use borrow.Author.Tests.{ne-eqb, lt-ltb, le-ltb}
 use native.Mathlib.Omega.{arith}
 use Rattle.steps.specs.Choices.{decoded}
 use Rattle.steps.proofs.Choosing.{leaf-stays}

@@ -1,6 +1,6 @@
 -- `steps::go` meets its contract: the tests in turn.
 -- Assumes nothing.
-use borrow.Author.Tests.{eq-eqb, ne-eqb, lt-ltb, le-ltb}
+use borrow.Author.Tests.{lt-ltb, le-ltb}
 use native.Mathlib.Omega.{arith}
 use Rattle.steps.specs.Choices.{decoded}
 use borrow.Author.Needs.{needs}

@@ -1,8 +1,7 @@
 -- `watch::walk_nodes` meets its contract: the tables are filled, and the run is followed.
 -- Assumes nothing.
-use mathlib.Core.Path.{refl}
 use borrow.Author.Needs.{needs}
-use Rattle.watch.proofs.Holding.{tree-stands, most-low, symbols-low, walkable}
+use Rattle.watch.proofs.Holding.{tree-stands, most-low, walkable}
 use Rattle.watch.proofs.walk_nodes.Statement.{statement}
 use Rattle.watch.proofs.walk_nodes.Tie as tie
 use Rattle.watch.proofs.walk_nodes.Reads as reads
