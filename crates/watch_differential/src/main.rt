@@ -1,0 +1,130 @@
+// Compares the watching of a run with a reading that follows the run record by record, on single automata and trees by chance, of which every second
+// pair has a fault or several. All bytes of the log are compared. Where there is no fault the search over all configurations has to accept the tree
+// exactly if the run passed, and a budget of nodes times states is never spent. It writes how the runs end, the refusals by number, and how often the
+// engine differs.
+mod engine;
+
+use followed::answer;
+use followed::answer::Expected;
+use followed::answer::Question;
+use followed::limits;
+use followed::tree_files;
+use sampling::random::seed;
+use sampling::rules::Automaton;
+use search::files;
+use walks::automata;
+use walks::trees;
+use watch_trials::counts;
+use watch_trials::counts::COUNTS;
+use watch_trials::counts::DIFFERENCES;
+use watch_trials::counts::SEVERAL;
+use watch_trials::counts::count_if;
+use watch_trials::faults;
+use watch_trials::logs;
+use watch_trials::searched;
+
+// The pairs of each family.
+const PAIRS: usize = 2000;
+
+// Counts what has to be answered and whether it is; gives back what the engine answers.
+fn compare_answers(
+    counts: &mut [usize],
+    k: usize,
+    a: Automaton,
+    records: &[u8],
+    nodes: &[usize],
+    size: usize,
+    q: Question,
+    automaton: &[u8],
+    tree: &[u8],
+) -> Expected {
+    let mut log = [0u8; limits::ROOM];
+    let n = logs::end(q.room);
+    logs::fill(&mut log, n, k);
+    let mut right = log;
+    let expected = answer::expected_of(a, records, nodes, size, q, &mut right);
+    let found = engine::answer(automaton, tree, q.budget, &mut log, q.room);
+    let same = engine::same(found, expected) && logs::same_bytes(&log, &right, n);
+    counts::count_answer(counts, k / PAIRS, expected);
+    count_if(counts, DIFFERENCES, !same);
+    found
+}
+
+// Makes the files and the log's length, and compares.
+fn ask(
+    counts: &mut [usize],
+    random: &mut u64,
+    k: usize,
+    a: Automaton,
+    records: &mut [u8; 2560],
+    nodes: &[usize; trees::ROOM],
+    size: usize,
+    budget: usize,
+    faults: u32,
+) {
+    let mut automaton = [0u8; 3072];
+    let mut tree = [0u8; tree_files::ROOM];
+    let first = faults::automaton_file(random, a, records, &mut automaton, faults);
+    let second = faults::tree_file(random, a, nodes, size, &mut tree, faults);
+    let room = faults::room(random, budget, faults);
+    let q = Question {
+        automaton: first,
+        tree: second,
+        budget,
+        room,
+    };
+    let found = compare_answers(
+        counts,
+        k,
+        a,
+        records,
+        nodes,
+        size,
+        q,
+        files::front(&automaton, first.length),
+        files::front(&tree, second.length),
+    );
+    if faults == 0 {
+        searched::compare(counts, a, records, nodes, size, budget, found);
+    }
+}
+
+// The pair of that number.
+fn one(counts: &mut [usize], k: usize, family: usize) {
+    let mut random = seed(k);
+    let mut nodes = [0usize; trees::ROOM];
+    let mut records = [0u8; 2560];
+    let first = automata::start(&mut random, family);
+    let size = trees::make(&mut random, &mut nodes, first.symbols, first.branches);
+    let a = automata::make(&mut random, &nodes, &mut records, first, family);
+    let faults = faults::of_pair(&mut random, k, a);
+    let budget = faults::budget(&mut random, a, &records, &nodes, size, faults);
+    let b = faults::with_start(&mut random, a, faults);
+    let c = faults::with_rules(&mut random, &mut records, b, faults);
+    count_if(counts, SEVERAL, faults::several(faults));
+    ask(
+        counts,
+        &mut random,
+        k,
+        c,
+        &mut records,
+        &nodes,
+        size,
+        budget,
+        faults,
+    );
+}
+
+fn run(counts: &mut [usize]) {
+    for k in 0..PAIRS * automata::FAMILIES {
+        one(counts, k, k / PAIRS);
+    }
+}
+
+fn main() {
+    let mut counts = [0usize; COUNTS];
+    run(&mut counts);
+    counts::print_endings(&counts);
+    counts::print_refusals(&counts);
+    counts::print_differences(&counts);
+}
