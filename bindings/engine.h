@@ -5,12 +5,12 @@
  * encodings in crates/numbering/specs/Numbers.antt.
  *
  * Pointers. A pointer with a length points at so many bytes, or more; it is never null, also where the length is 0. A pointer to numbers
- * is aligned as its type is. What a function writes to (told, out, tally, text, a survey's plan) overlaps nothing else that it was given;
- * what it only reads may overlap. Nothing is kept after the call.
+ * is aligned as its type is. What a function writes to (told, out, log, tally, text, a survey's plan) overlaps nothing else that it was
+ * given; what it only reads may overlap. Nothing is kept after the call.
  *
  * What is written. `told` is always written, all three numbers: what the answer tells, or, of a refusal, its number (1 to 14 of document
- * 01's table, 15 to 19 of document 02), the file (0 automaton, 1 tree, 2 neither), and the place that the table names; what an answer does
- * not tell is 0. `plan`, `out`, `tally` and `text` are changed only as said below, and no other memory is.
+ * 01's table, 15 to 22 of document 02), the file (0 automaton, 1 tree, 2 neither), and the place that the table names; what an answer does
+ * not tell is 0. `plan`, `out`, `log`, `tally` and `text` are changed only as said below, and no other memory is.
  *
  * Threads. Calls share nothing: there is no state between them, no allocation, no lock, no file and no signal. Any number of threads may
  * call at one time, each with memory of its own to be written to.
@@ -30,6 +30,7 @@
 #define ENGINE_SINGLE_STACK (44 * 1024)
 #define ENGINE_CANONICAL_STACK (56 * 1024)
 #define ENGINE_MARKUP_STACK (36 * 1024)
+#define ENGINE_WATCH_STACK (76 * 1024)
 #define ENGINE_COUNT_STACK (4 * 1024)
 #define ENGINE_PERCENT_STACK (4 * 1024)
 #define ENGINE_TALLY_STACK (80 * 1024)
@@ -84,6 +85,17 @@ uint32_t engine_canonical(const uint8_t *file, size_t length, uint8_t *out, size
  * is too short (the length of the file). */
 uint32_t engine_markup(const uint8_t *file, size_t length, const uint8_t *text, size_t text_length, uint8_t *out, size_t out_length,
                        size_t told[3]);
+
+/* Follows the one run of a single automaton with one start state on a tree, and logs each position at the front of the buffer, three bytes an
+ * entry: the node, its number in preorder from 0, low byte first, and the state. The first entry is the root in the start state, so that there
+ * is one entry more than steps. Before each step the first of these that holds is the answer: passed, the run is at the root in a final state;
+ * stuck, no rule applies; circling, the steps made are nodes x states; spent, they are the budget. Bytes after the entries stay; a call that
+ * is refused changes none.
+ * 0 passed (steps), and the tree is accepted; 1 stuck (steps) or 2 circling (steps), and it is not; 3 spent (steps), which does not tell;
+ * 4 refused (number, file, place): after the automaton's refusals and the tree's 20, the automaton is not single (0), 21, it has not exactly
+ * one start state (the number there are), 22, a budget over 20,000 (20,000), and 13, the log is shorter than 3 x (budget + 1) (that length). */
+uint32_t engine_watch(const uint8_t *automaton, size_t automaton_length, const uint8_t *tree, size_t tree_length, size_t budget,
+                      uint8_t *log, size_t log_length, size_t told[3]);
 
 /* Counts one outcome more on a tally of three numbers: accepted, other, refused. The outcome is what engine_judge answered: 0 accepted,
  * 1 other, any other number refused. A tally whose numbers add to 1,000,000 or more stays as it was.

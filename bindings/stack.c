@@ -7,6 +7,7 @@
 #include <ucontext.h>
 
 enum { CONTENT = 508, BLOCK = 512, STACK = 1 << 21, FILLED = 0xA5, HEIGHT = 64, WALKER = 6 * BLOCK, LETTER = 9 * BLOCK, TEXT = 32768 };
+enum { BUDGET = 20000, LOG = 3 * (BUDGET + 1) };
 
 /* ---- files */
 
@@ -79,6 +80,27 @@ static size_t write_spread(uint8_t *file)
     return write_rules(file, 0);
 }
 
+/* The same counts and symbols, and rules by which a walk goes round the whole letter, again and again, in three states: arriving, back from the
+ * left part, back from the right part. They are said more than once, and the last are a second rule where the walker is not to be single. */
+static size_t write_round(uint8_t *file, int single)
+{
+    static const int arriving = 16, between = 17, done = 18;
+    rules = 0;
+    while (rules < 504) {
+        int symbol = (int)rules / 7 % 31;
+        add_rule(symbol, arriving, 3, 2, arriving);
+        add_rule(symbol, between, 3, 3, arriving);
+        add_rule(symbol, done, 0, 0, arriving);
+        add_rule(symbol, done, 1, 1, between);
+        add_rule(symbol, done, 2, 1, done);
+        add_rule(31, arriving, 1, 1, between);
+        add_rule(31, arriving, 2, 1, done);
+    }
+    while (rules < 512)
+        add_rule(31, arriving, 2, 1, single ? done : between);
+    return write_rules(file, 0);
+}
+
 static uint8_t nodes[4 + 4096];
 static unsigned count;
 
@@ -109,10 +131,15 @@ static void add_comb(int left, int large, int level)
         add_comb(left, large, level + 1);
 }
 
-static size_t write_letter(uint8_t *file, int left, int large)
+enum { NONE, LEFT, RIGHT, LARGE_LEFT, LARGE_RIGHT, FULL, LETTERS };
+
+static size_t write_letter(uint8_t *file, int letter)
 {
     count = 0;
-    add_comb(left, large, 0);
+    if (letter == FULL)
+        add_full(11);
+    else
+        add_comb(letter == LEFT || letter == LARGE_LEFT, letter >= LARGE_LEFT, 0);
     nodes[0] = 84, nodes[1] = 0, nodes[2] = (uint8_t)count, nodes[3] = (uint8_t)(count >> 8);
     return write_file(file, nodes, 4 + count);
 }
@@ -123,9 +150,8 @@ static struct {
 } input;
 
 /* Each pair of a walker (none, the one, it with the start state final, and the one with place 3) and a letter (none, then combs: left,
- * right, and both large). */
-enum { NONE, LARGEST, PASSING, SPREAD, WALKERS };
-enum { LETTERS = 5, INPUTS = WALKERS * LETTERS };
+ * right, and both large; and the full tree). */
+enum { LARGEST = 1, PASSING, SPREAD, WALKERS, INPUTS = WALKERS * LETTERS };
 
 static void make_input(int number)
 {
@@ -136,7 +162,7 @@ static void make_input(int number)
         input.walker_length = write_spread(input.walker);
     else
         input.walker_length = write_walker(input.walker, walker == PASSING ? 1u << 16 : 1u << 23);
-    input.letter_length = letter == 0 ? 0 : write_letter(input.letter, letter % 2, letter > 2);
+    input.letter_length = letter == NONE ? 0 : write_letter(input.letter, letter);
 }
 
 /* ---- calls */
@@ -209,6 +235,24 @@ static void call_markup(void)
     }
 }
 
+static uint32_t watch(const uint8_t *walker, size_t walker_length, size_t budget, size_t log_length)
+{
+    static uint8_t log[LOG];
+    return engine_watch(walker, walker_length, input.letter, input.letter_length, budget, log, log_length, told);
+}
+
+/* The walk of the walker, and of the one that goes round, with the largest budget; and refusals 20, 22 and 13. */
+static void call_watch(void)
+{
+    static uint8_t round[WALKER], second[WALKER];
+    size_t length = write_round(round, 1);
+    watch(input.walker, input.walker_length, BUDGET, LOG);
+    watch(second, write_round(second, 0), BUDGET, LOG);
+    watch(round, length, BUDGET + 1, LOG);
+    watch(round, length, BUDGET, LOG - 1);
+    answer = watch(round, length, BUDGET, LOG);
+}
+
 static void call_count(void)
 {
     answer = engine_count(tally, 0, told);
@@ -238,9 +282,9 @@ static const struct {
     {"engine_judge", call_judge, ENGINE_JUDGE_STACK},       {"engine_survey", call_survey, ENGINE_SURVEY_STACK},
     {"engine_witness", call_witness, ENGINE_WITNESS_STACK}, {"engine_quick", call_quick, ENGINE_QUICK_STACK},
     {"engine_single", call_single, ENGINE_SINGLE_STACK},    {"engine_canonical", call_canonical, ENGINE_CANONICAL_STACK},
-    {"engine_markup", call_markup, ENGINE_MARKUP_STACK},    {"engine_count", call_count, ENGINE_COUNT_STACK},
-    {"engine_percent", call_percent, ENGINE_PERCENT_STACK}, {"engine_tally", call_tally, ENGINE_TALLY_STACK},
-    {"engine_report", call_report, ENGINE_REPORT_STACK},
+    {"engine_markup", call_markup, ENGINE_MARKUP_STACK},    {"engine_watch", call_watch, ENGINE_WATCH_STACK},
+    {"engine_count", call_count, ENGINE_COUNT_STACK},       {"engine_percent", call_percent, ENGINE_PERCENT_STACK},
+    {"engine_tally", call_tally, ENGINE_TALLY_STACK},       {"engine_report", call_report, ENGINE_REPORT_STACK},
 };
 
 /* ---- measuring */
@@ -286,15 +330,24 @@ static size_t most_of(void (*call)(void))
     return most;
 }
 
+/* Whether the last walk is refused with the letter, circles on a comb of 129 nodes, and is spent on a large letter. */
+static int watch_right(int letter)
+{
+    if (letter == NONE)
+        return answer == 4 && told[0] == 1 && told[1] == 1;
+    return letter < LARGE_LEFT ? answer == 2 && told[0] == 129 * 24 : answer == 3 && told[0] == BUDGET;
+}
+
 /* That the inputs are what they should be: refused, not accepted and accepted; nine blocks; a survey that ends with Open 64; two plans that
- * are written; a form of six blocks, and one that 17 refuses; a text that is written. */
+ * are written; a form of six blocks, and one that 17 refuses; a text that is written; long walks. */
 static int inputs_right(void)
 {
     for (int number = 0; number < INPUTS; number++) {
         make_input(number);
         call_judge();
         int walker = number / LETTERS, letter = number % LETTERS;
-        if (answer != (walker == NONE || letter == 0 ? 2u : walker == PASSING ? 0u : 1u) || (letter > 2 && input.letter_length != LETTER))
+        uint32_t verdict = walker == NONE || letter == NONE ? 2 : walker != PASSING;
+        if (answer != verdict || (letter >= LARGE_LEFT && input.letter_length != LETTER))
             return 0;
         call_survey();
         if (walker == LARGEST && (answer != 1 || told[0] != 64))
@@ -307,6 +360,9 @@ static int inputs_right(void)
             return 0;
         call_markup();
         if (answer != 0 || told[0] != BLOCK)
+            return 0;
+        call_watch();
+        if (!watch_right(letter))
             return 0;
     }
     return 1;

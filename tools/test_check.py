@@ -5,8 +5,8 @@ import os, shutil, subprocess, tempfile, unittest
 
 HERE = os.path.dirname(os.path.abspath(__file__))
 ROOT = os.path.join(HERE, '..')
-COPIED = ['tools', 'samples', 'crates/cases', 'crates/report_cases', 'crates/witness_cases', 'crates/canonical_cases', 'crates/markup_cases', 'crates/example',
-          'crates/convert', 'crates/compose']
+COPIED = ['tools', 'samples', 'crates/cases', 'crates/report_cases', 'crates/witness_cases', 'crates/canonical_cases', 'crates/markup_cases',
+          'crates/watch_cases', 'crates/example', 'crates/convert', 'crates/compose', 'crates/trace']
 
 
 class Check(unittest.TestCase):
@@ -16,6 +16,8 @@ class Check(unittest.TestCase):
         self.root = folder.name
         for name in COPIED:
             shutil.copytree(os.path.join(ROOT, name), self.path(name))
+        os.mkdir(self.path('docs'))
+        shutil.copy(os.path.join(ROOT, 'docs/walk.svg'), self.path('docs'))
 
     def path(self, name):
         return os.path.join(self.root, name)
@@ -36,7 +38,7 @@ class Check(unittest.TestCase):
     def test_differences(self):
         changed = ['crates/cases/stdin', 'crates/cases/stdout', 'crates/report_cases/stdout', 'crates/report_cases/data/07.letters',
                    'crates/report_cases/data/38.walker', 'crates/witness_cases/stdin', 'crates/canonical_cases/stdout', 'crates/markup_cases/stdin',
-                   'crates/convert/stdout', 'crates/compose/stdout',
+                   'crates/watch_cases/stdout', 'crates/convert/stdout', 'crates/compose/stdout', 'crates/trace/stdin', 'docs/walk.svg',
                    'samples/annex/walker.blk', 'samples/example/letters.blk']
         for name in changed:
             self.change(name)
@@ -46,8 +48,8 @@ class Check(unittest.TestCase):
         self.assertEqual((status, out), (1, 'stored\n'))
         for name in changed + ['11.walker', 'more.walker']:
             self.assertIn(name, said)
-        # the stored letter of `example` is the first of the one sample's, and the walker of `convert` and of `compose` the other's
-        self.assertEqual(said.count('FAILED'), 14)
+        # the stored letter of `example` is the first of the one sample's, and the walker of `convert`, of `compose` and of `trace` the other's
+        self.assertEqual(said.count('FAILED'), 17)
 
     def test_maker_fails(self):
         with open(self.path('tools/make_cases.py'), 'a') as file:

@@ -1,6 +1,6 @@
 #!/usr/bin/env python3
-"""Tests tools/example, tools/convert and tools/compose with stand-ins for the toolchain and the program, in a folder of its own: what is missing, and that what stood
-in the file to write stays where nothing was written."""
+"""Tests tools/example, tools/convert, tools/compose and tools/watch with stand-ins for the toolchain and the program, in a folder of its own: what is missing,
+and that what stood in the file to write stays where nothing was written."""
 import os, shutil, subprocess, tempfile, unittest
 
 HERE = os.path.dirname(os.path.abspath(__file__))
@@ -16,14 +16,15 @@ TOOLCHAIN = '''#!/bin/sh
 
 
 class Writer:
-    name = output = None
+    name = output = program = None
     inputs, made = ['a walker'], 'made of a walker'
 
     def setUp(self):
         folder = tempfile.TemporaryDirectory()
         self.addCleanup(folder.cleanup)
         self.root = folder.name
-        for name, content in [('rt', TOOLCHAIN % self.name), ('project/target/bin/' + self.name, PROGRAM)]:
+        program = self.program or self.name
+        for name, content in [('rt', TOOLCHAIN % program), ('project/target/bin/' + program, PROGRAM)]:
             self.write(name, content)
             os.chmod(os.path.join(self.root, name), 0o755)
         os.makedirs(os.path.join(self.root, 'project/tools'))
@@ -44,9 +45,12 @@ class Writer:
         environment = dict(os.environ, PATH=self.root + ':' + os.environ['PATH'], ROOT=self.root)
         run = subprocess.run([self.root + '/project/tools/' + self.name, *words], capture_output=True, text=True, env=environment,
                              cwd=os.path.join(self.root, 'mine'), timeout=60)
-        self.assertEqual(run.stdout, '')
-        with open(os.path.join(self.root, 'mine/a file')) as file:
+        self.printed = run.stdout
+        with open(os.path.join(self.root, 'mine/a file'), encoding='latin-1') as file:
             return run.returncode, run.stderr, file.read()
+
+    def tearDown(self):
+        self.assertEqual(self.printed, '')
 
     def test_written(self):
         self.assertEqual(self.run_script(*self.inputs, 'a file'), (0, '', self.made))
@@ -90,6 +94,38 @@ class Compose(Writer, unittest.TestCase):
     def test_long_walker(self):
         self.write('mine/a walker', 'w' * 4000)
         self.assertEqual(self.run_script(*self.inputs, 'a file'), (0, '', 'made of \x01\x0c' + 'w' * 3073 + 'a text'))
+
+
+class Watch(Writer, unittest.TestCase):
+    name, output, program = 'watch', 'LETTER LOG [BUDGET]', 'trace'
+    inputs, made = ['a walker', 'a text'], 'made of \x08\0\x20Na walkera text'
+
+    def test_answer(self):
+        for answer in 'passed steps=12', 'stuck steps=0', 'circling steps=6', 'spent steps=20000':
+            self.write('mine/words', f'trace: {answer}\n')
+            self.assertEqual(self.run_script(*self.inputs, 'a file'), (0, '', self.made))
+            self.assertEqual(self.printed, answer + '\n')
+            self.printed = ''
+            self.assertEqual(self.run_script(*self.inputs, 'none/file')[0], 1)
+
+    def test_no_answer(self):
+        for words in 'trace: refused=20 file=2 place=0', 'trace: output lost', 'trace: input cut off':
+            self.write('mine/words', words + '\n')
+            self.assertEqual(self.run_script(*self.inputs, 'a file'), (1, f'tools/watch: {words}\n', 'old'))
+
+    def test_budget(self):
+        for budget, told in ('0', '\0\0'), ('1', '\x01\0'), ('300', ',\x01'), ('20001', '!N'), ('65536', '\xff\xff'), ('9' * 30, '\xff\xff'):
+            self.assertEqual(self.run_script(*self.inputs, 'a file', budget), (0, '', self.made.replace('\x20N', told)))
+        for budget in '', '-1', '+1', '1x', '0x10', '007', '1 2', '1.5':
+            status, said, _ = self.run_script(*self.inputs, 'a file', budget)
+            self.assertEqual(status, 2)
+            self.assertIn('tools/watch WALKER LETTER LOG [BUDGET]:', said)
+        self.assertEqual(self.run_script(*self.inputs, 'a file', '1', '2')[0], 2)
+
+    def test_long_files(self):
+        self.write('mine/a walker', 'w' * 4000)
+        self.write('mine/a text', 'l' * 5000)
+        self.assertEqual(self.run_script(*self.inputs, 'a file'), (0, '', 'made of \x01\x0c\x20N' + 'w' * 3073 + 'l' * 4609))
 
 
 if __name__ == '__main__':

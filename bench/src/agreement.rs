@@ -1,6 +1,6 @@
 //! Comparison of the implementations on many small automata and trees, good files and damaged ones.
 use crate::{
-    automaton::{Automaton, Rule, EVERY_PLACE},
+    automaton::{Automaton, Rule, EVERY_PLACE, LEFT, RIGHT, STAY, UP},
     judges::{self, Judges},
     random::Random,
     shapes::{self, Shape},
@@ -114,6 +114,39 @@ pub fn small_automaton(random: &mut Random) -> Automaton {
         };
         if rule.check(&automaton).is_ok() || random.below(1000) == 0 {
             automaton.rules.push(rule);
+        }
+    }
+    automaton
+}
+
+/// A rule for a symbol, state and place that document 01 does not refuse, with a next state of these.
+fn rule_at(automaton: &Automaton, [symbol, state, place]: [u8; 3], next_states: &[usize], random: &mut Random) -> Rule {
+    loop {
+        let (step, next) = (random.pick(&[STAY, UP, LEFT, RIGHT]), random.pick(next_states) as u8);
+        let rule = Rule { symbol, state, place, step, next };
+        if rule.check(automaton).is_ok() {
+            return rule;
+        }
+    }
+}
+
+/// A single automaton with one start state, which has a rule for most symbols, states and places, or for some.
+pub fn walking_automaton(random: &mut Random) -> Automaton {
+    let states = random.from_to(1, 24);
+    let symbols = random.from_to(2, 5);
+    let branches = random.from_to(1, symbols - 1);
+    let used = used_states(states, random);
+    let accepting = if random.below(2) == 0 { 0 } else { some_of(&used, random) };
+    let (initial, branches) = (1 << random.pick(&used), (1 << branches) - 1);
+    let mut automaton = Automaton { states, symbols, initial, accepting, branches, rules: Vec::new() };
+    let often = random.pick(&[30, 90, 100]);
+    for (symbol, &state) in (0..symbols as u8).flat_map(|symbol| used.iter().map(move |state| (symbol, state))) {
+        let places: &[u8] = if random.below(3) == 0 { &[EVERY_PLACE] } else { &[0, 1, 2] };
+        for &place in places {
+            if random.below(100) < often {
+                let rule = rule_at(&automaton, [symbol, state as u8, place], &used, random);
+                automaton.rules.push(rule);
+            }
         }
     }
     automaton

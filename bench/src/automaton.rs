@@ -9,6 +9,7 @@ pub const LEFT: u8 = 2;
 pub const RIGHT: u8 = 3;
 
 pub const MOST_STATES: usize = 24;
+pub const MOST_SYMBOLS: usize = 32;
 pub const MOST_RULES: usize = 512;
 const MOST_BYTES: usize = 3072;
 const KIND: u8 = 87;

@@ -1,5 +1,5 @@
 //! The engine, by bindings/rust, in the terms of this crate.
-use crate::{batch::Tally, survey::Survey, Judge, Refusal, Verdict};
+use crate::{batch::Tally, survey::Survey, watch::Watched, Judge, Refusal, Verdict};
 
 fn refusal(::engine::Refusal { number, place, .. }: ::engine::Refusal) -> Refusal {
     Refusal { number, place }
@@ -28,6 +28,16 @@ pub fn canonical(file: &[u8], out: &mut [u8]) -> Result<usize, Refusal> {
 /// Writes the tree's file of an element text to the front of the output; its length, or the refusal.
 pub fn markup(file: &[u8], text: &[u8], out: &mut [u8]) -> Result<usize, Refusal> {
     ::engine::markup(file, text, out).map_err(refusal)
+}
+
+/// Follows the run of an automaton's file on a tree's file, and logs it at the front of the output; how it ended, or the refusal.
+pub fn watch(file: &[u8], tree: &[u8], budget: usize, log: &mut [u8]) -> Result<Watched, Refusal> {
+    Ok(match ::engine::watch(file, tree, budget, log).map_err(refusal)? {
+        ::engine::Watched::Passed { steps } => Watched::Passed(steps),
+        ::engine::Watched::Stuck { steps } => Watched::Stuck(steps),
+        ::engine::Watched::Circling { steps } => Watched::Circling(steps),
+        ::engine::Watched::Spent { steps } => Watched::Spent(steps),
+    })
 }
 
 /// The engine's tally of trees' files end to end.

@@ -34,6 +34,9 @@ pub mod tables;
 #[cfg(feature = "engine")]
 mod texts;
 pub mod tree;
+pub mod watch;
+#[cfg(feature = "engine")]
+mod watches;
 
 /// Why an input is refused: the number of the line of document 01's table or of document 02's requests, and the place that the line names.
 #[derive(Clone, Copy, Debug, PartialEq, Eq)]
@@ -45,6 +48,18 @@ pub struct Refusal {
 /// The refusal by a line of the table, at a place.
 fn refused<T>(number: u32, place: usize) -> Result<T, Refusal> {
     Err(Refusal { number, place })
+}
+
+/// A refusal and the file that it is about: 0 the automaton's, 1 the tree's, 2 neither.
+#[derive(Clone, Copy, Debug, PartialEq, Eq)]
+pub struct Refused {
+    pub file: u8,
+    pub refusal: Refusal,
+}
+
+/// The refusal by a line of the table, of a file, at a place.
+fn refused_in<T>(number: u32, file: u8, place: usize) -> Result<T, Refused> {
+    Err(Refused { file, refusal: Refusal { number, place } })
 }
 
 #[derive(Clone, Copy, Debug, PartialEq, Eq)]
@@ -87,5 +102,7 @@ pub fn run() -> Result<(), String> {
     reads::run()?;
     #[cfg(feature = "engine")]
     texts::run()?;
+    #[cfg(feature = "engine")]
+    watches::run()?;
     Ok(())
 }

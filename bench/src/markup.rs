@@ -1,23 +1,13 @@
 //! The tree of an element text, as a tree's file (document 02, W6): one pass over the text, with a stack of the elements that are open.
 use crate::{
     automaton::Automaton,
+    refused_in,
     tree::{self, Alphabet, MOST_HEIGHT, MOST_NODES},
-    Refusal,
+    Refused,
 };
 use std::ops::Range;
 
 pub const MOST_TEXT: usize = 32_768;
-
-/// A refusal and the file that it is about: 0 the automaton's, 1 the tree's, 2 neither.
-#[derive(Clone, Copy, Debug, PartialEq, Eq)]
-pub struct Refused {
-    pub file: u8,
-    pub refusal: Refusal,
-}
-
-fn refused<T>(number: u32, file: u8, place: usize) -> Result<T, Refused> {
-    Err(Refused { file, refusal: Refusal { number, place } })
-}
 
 /// An element that is open: where its number and the `>` behind it stand in the text, and how far its node is below the root.
 struct Open {
@@ -140,21 +130,21 @@ impl<'a> Parser<'a> {
 /// The symbols of a text's tree in preorder. Refusals 18, 19, 4 and 12.
 fn symbols(alphabet: Alphabet, text: &[u8]) -> Result<Vec<u8>, Refused> {
     if text.len() > MOST_TEXT {
-        return refused(18, 2, MOST_TEXT);
+        return refused_in(18, 2, MOST_TEXT);
     }
     let Parsed { symbols, wrong_tag, too_low } =
-        Parser::new(text, alphabet).parse().or_else(|place| refused(18, 2, place))?;
+        Parser::new(text, alphabet).parse().or_else(|place| refused_in(18, 2, place))?;
     if alphabet.is_branch(0) {
-        return refused(19, 2, 0);
+        return refused_in(19, 2, 0);
     }
     if let Some(place) = wrong_tag {
-        return refused(19, 2, place);
+        return refused_in(19, 2, place);
     }
     if symbols.len() > MOST_NODES {
-        return refused(4, 1, 2);
+        return refused_in(4, 1, 2);
     }
     if let Some(place) = too_low {
-        return refused(12, 1, place);
+        return refused_in(12, 1, place);
     }
     Ok(symbols)
 }
@@ -165,7 +155,7 @@ pub fn write(file: &[u8], text: &[u8], out: &mut [u8]) -> Result<usize, Refused>
     let tree = tree::write(&symbols(Alphabet::of(&automaton), text)?);
     match out.get_mut(..tree.len()) {
         Some(front) => front.copy_from_slice(&tree),
-        None => return refused(13, 2, tree.len()),
+        None => return refused_in(13, 2, tree.len()),
     }
     Ok(tree.len())
 }

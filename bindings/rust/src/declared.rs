@@ -39,6 +39,16 @@ extern "C" {
         out_length: usize,
         told: *mut Told,
     ) -> u32;
+    fn engine_watch(
+        automaton: *const u8,
+        automaton_length: usize,
+        tree: *const u8,
+        tree_length: usize,
+        budget: usize,
+        log: *mut u8,
+        log_length: usize,
+        told: *mut Told,
+    ) -> u32;
     fn engine_count(tally: *mut [u32; 3], outcome: u32, told: *mut Told) -> u32;
     fn engine_percent(accepted: u32, other: u32) -> u32;
     fn engine_tally(
@@ -101,6 +111,14 @@ pub fn markup(file: &[u8], text: &[u8], out: &mut [u8]) -> (u32, Told) {
     // SAFETY: the pointers are of slices, with their lengths; `out` is lent to be written to, and `told` is the call's own.
     telling(|told| unsafe {
         engine_markup(file.as_ptr(), file.len(), text.as_ptr(), text.len(), out.as_mut_ptr(), out.len(), told)
+    })
+}
+
+pub fn watch(automaton: &[u8], tree: &[u8], budget: usize, log: &mut [u8]) -> (u32, Told) {
+    let (file, length) = (automaton.as_ptr(), automaton.len());
+    // SAFETY: the pointers are of slices, with their lengths; `log` is lent to be written to, and `told` is the call's own.
+    telling(|told| unsafe {
+        engine_watch(file, length, tree.as_ptr(), tree.len(), budget, log.as_mut_ptr(), log.len(), told)
     })
 }
 

@@ -1,5 +1,5 @@
 //! The engine for tree-walking automata, from its static library: judging, the survey and its plan's tree, the quick check, single, the one
-//! form of an automaton's file, element texts as trees' files, the tally, and the report.
+//! form of an automaton's file, element texts as trees' files, watching a run, the tally, and the report.
 //! Files are given as their bytes; every input is answered, a bad file by its refusal. Calls share nothing, and may be made by any number
 //! of threads; `bindings/engine.h` says how much stack each takes.
 mod declared;
@@ -17,6 +17,9 @@ pub const TEXT: usize = 32768;
 
 /// The most bytes that a plan takes, and the fewest that the survey accepts as a buffer.
 pub const PLAN: usize = 195;
+
+/// The most steps that a budget may have.
+pub const BUDGET: usize = 20_000;
 
 /// Which file a refusal is about.
 #[derive(Clone, Copy, Debug, PartialEq, Eq)]
@@ -55,6 +58,16 @@ pub enum Survey {
 pub enum Quick {
     Clear,
     Unsure,
+}
+
+/// How a run ended, and the steps that it made: at the root in a final state, so that the tree is accepted; where no rule applies, or after
+/// nodes times states steps, which come back to where it was, so that it is not accepted; or by its budget, which does not tell.
+#[derive(Clone, Copy, Debug, PartialEq, Eq)]
+pub enum Watched {
+    Passed { steps: usize },
+    Stuck { steps: usize },
+    Circling { steps: usize },
+    Spent { steps: usize },
 }
 
 /// What became of a tree, to be counted.
@@ -159,6 +172,19 @@ pub fn canonical(file: &[u8], out: &mut [u8]) -> Result<usize, Refusal> {
 pub fn markup(file: &[u8], text: &[u8], out: &mut [u8]) -> Result<usize, Refusal> {
     match declared::markup(file, text, out) {
         (0, [length, ..]) => Ok(length),
+        (_, told) => Err(Refusal::of(told)),
+    }
+}
+
+/// Follows the one run of a single automaton with one start state on a tree, by their files, for at most as many steps as the budget has. Each
+/// position is logged at the front of `log`, three bytes an entry: the node, its number in preorder, low byte first, and the state. There is one
+/// entry more than steps; later bytes stay, and a call that is refused changes none. A log of 3 * (budget + 1) bytes is not too short.
+pub fn watch(automaton: &[u8], tree: &[u8], budget: usize, log: &mut [u8]) -> Result<Watched, Refusal> {
+    match declared::watch(automaton, tree, budget, log) {
+        (0, [steps, ..]) => Ok(Watched::Passed { steps }),
+        (1, [steps, ..]) => Ok(Watched::Stuck { steps }),
+        (2, [steps, ..]) => Ok(Watched::Circling { steps }),
+        (3, [steps, ..]) => Ok(Watched::Spent { steps }),
         (_, told) => Err(Refusal::of(told)),
     }
 }
