@@ -6,6 +6,7 @@ The reading below is written from documents 01 and 02 and shares nothing with th
 form, the reading is held to it. Every file that is refused by document 01's table states its refusal."""
 import itertools, os, random, struct, sys
 from files import blocks, walker_file, walker_payload
+from told import mix, no, pattern
 
 random.seed(4)
 HERE = sys.argv[1] if len(sys.argv) > 1 else os.path.join(os.path.dirname(os.path.abspath(__file__)), '..', 'crates', 'canonical_cases')
@@ -37,16 +38,6 @@ def answer(states, symbols, start, final, branches, rules, room):
 cases = []
 
 
-def pattern(room): return bytes(at % 251 for at in range(room))
-
-
-def mix(data):
-    """One number for all bytes of the output afterwards."""
-    total = 1
-    for byte in data: total = (total * 257 + byte) % 1000003
-    return total
-
-
 def add(label, file, room, told, written=b''):
     assert len(label) < 256 and all(label != other[0] for other in cases), label
     cases.append((label, file, room, f'{told} mix={mix(written + pattern(room)[len(written):])}'))
@@ -63,9 +54,8 @@ def case(label, rules, room, says=None, gives=None, states=2, symbols=3, start=1
     return file
 
 
-def no(number, place): return f' refused={number} file=2 place={place}'
 def yes(length, rules): return f' written={length} rules={rules} again=same'
-def own(number, place): return f' refused={number} file=0 place={place}'
+def own(number, place): return no(number, place, 0)
 
 
 A = [(2, 0, 0, 3, 0), (2, 0, 2, 3, 0), (1, 0, 2, 1, 1), (2, 1, 2, 1, 1)]

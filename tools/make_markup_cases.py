@@ -7,6 +7,7 @@ all ways to go on that they leave, whatever comes next: where none is left, no c
 sentence itself. Where a case states its answer the reading is held to it."""
 import functools, itertools, os, random, re, struct, sys
 from files import blocks, letter_file, walker_file, walker_payload
+from told import mix, no, pattern
 
 random.seed(6)
 HERE = sys.argv[1] if len(sys.argv) > 1 else os.path.join(os.path.dirname(os.path.abspath(__file__)), '..', 'crates', 'markup_cases')
@@ -154,18 +155,6 @@ cases, labels = [], set()
 NOWHERE = 65535
 
 
-def pattern(room): return bytes(at % 251 for at in range(room))
-
-
-@functools.lru_cache(64)
-def mix(data):
-    """One number for all bytes of the output afterwards."""
-    total = 1
-    for byte in data: total = (total * 257 + byte) % 1000003
-    return total
-
-
-def no(number, place, file=2): return f' refused={number} file={file} place={place}'
 def yes(length, nodes): return f' written={length} nodes={nodes}'
 
 

@@ -7,6 +7,7 @@ is held to it. Every walk is held to a search over all positions, too. Every fil
 import functools, itertools, os, random, struct, sys
 from collections import Counter, namedtuple
 from files import blocks, letter_file, letter_payload, walker_file, walker_payload
+from told import mix, no, pattern
 
 random.seed(7)
 HERE = sys.argv[1] if len(sys.argv) > 1 else os.path.join(os.path.dirname(os.path.abspath(__file__)), '..', 'crates', 'watch_cases')
@@ -108,20 +109,6 @@ def hold(walker, letter, budget, end, steps):
 # ---- the cases
 
 cases, labels = [], set()
-
-
-def pattern(room): return bytes(at % 251 for at in range(room))
-
-
-@functools.lru_cache(64)
-def mix(data):
-    """One number for all bytes of the log afterwards."""
-    total = 1
-    for byte in data: total = (total * 257 + byte) % 1000003
-    return total
-
-
-def no(number, place, file=2): return f' refused={number} file={file} place={place}'
 
 
 def add(label, automaton, tree, budget, room, told, written=b''):

@@ -6,6 +6,7 @@ The reading below is written from document 02 and shares nothing with the engine
 reading is held to it."""
 import os, random, struct, sys
 from files import letter_file, walker_file
+from told import mix, no
 
 random.seed(2)
 HERE = sys.argv[1] if len(sys.argv) > 1 else os.path.join(os.path.dirname(os.path.abspath(__file__)), '..', 'crates', 'witness_cases')
@@ -49,13 +50,6 @@ def answer(symbols, branches, plan, room):
 cases = []
 
 
-def mix(data):
-    """One number for all bytes of the output afterwards."""
-    total = 1
-    for byte in data: total = (total * 257 + byte) % 1000003
-    return total
-
-
 def add(label, file, plan, room, told, letter=b''):
     plan = None if plan is None else bytes(plan)
     after = letter.ljust(room, bytes([FILL]))
@@ -65,13 +59,12 @@ def add(label, file, plan, room, told, letter=b''):
 def case(label, symbols, branches, plan, room, final=2, says=None):
     """The walker has no rules, so that it accepts every letter if its start state is final, and none otherwise."""
     number, place, letter = answer(symbols, branches, plan, room)
-    if letter is None: told = f' refused={number} file=2 place={place}'
+    if letter is None: told = no(number, place)
     else: told = f' bytes={len(letter)} ' + ('accepted' if final & 1 else 'other')
     assert says is None or told == says, (label, told, says)
     add(label, walker_file(2, symbols, 1, final, branches, []), plan, room, told, letter or b'')
 
 
-def no(number, place): return f' refused={number} file=2 place={place}'
 def yes(length): return f' bytes={length} other'
 
 

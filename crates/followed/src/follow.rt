@@ -9,7 +9,6 @@ use search::trees::PARENT;
 use search::trees::RIGHT;
 use search::trees::SIDE;
 use search::trees::SYMBOL;
-use walks::trees;
 
 pub const PASSED: usize = 0;
 
@@ -53,8 +52,8 @@ fn lowest(set: u32) -> usize {
 
 // The first record that applies, or the number of records.
 fn record_at(a: Automaton, records: &[u8], nodes: &[usize], p: Position) -> usize {
-    let symbol = trees::get(nodes, p.node, SYMBOL);
-    let place = trees::get(nodes, p.node, SIDE);
+    let symbol = large_trees::get(nodes, p.node, SYMBOL);
+    let place = large_trees::get(nodes, p.node, SIDE);
     rules::find(records, a, Rule::new(symbol, p.state, place, 0, 0))
 }
 
@@ -90,9 +89,9 @@ fn put(log: &mut [u8], steps: usize, p: Position) {
 fn target(nodes: &[usize], node: usize, step: usize) -> usize {
     match step {
         0 => node,
-        1 => trees::get(nodes, node, PARENT),
-        2 => trees::get(nodes, node, LEFT),
-        _ => trees::get(nodes, node, RIGHT),
+        1 => large_trees::get(nodes, node, PARENT),
+        2 => large_trees::get(nodes, node, LEFT),
+        _ => large_trees::get(nodes, node, RIGHT),
     }
 }
 

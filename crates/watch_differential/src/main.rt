@@ -8,18 +8,14 @@ use followed::answer;
 use followed::answer::Expected;
 use followed::answer::Question;
 use followed::limits;
-use followed::tree_files;
 use sampling::random::seed;
 use sampling::rules::Automaton;
 use search::files;
-use walks::automata;
-use walks::trees;
 use watch_trials::counts;
 use watch_trials::counts::COUNTS;
 use watch_trials::counts::DIFFERENCES;
 use watch_trials::counts::SEVERAL;
 use watch_trials::counts::count_if;
-use watch_trials::faults;
 use watch_trials::logs;
 use watch_trials::searched;
 
@@ -57,16 +53,16 @@ fn ask(
     k: usize,
     a: Automaton,
     records: &mut [u8; 2560],
-    nodes: &[usize; trees::ROOM],
+    nodes: &[usize; large_trees::ROOM],
     size: usize,
     budget: usize,
     faults: u32,
 ) {
     let mut automaton = [0u8; 3072];
-    let mut tree = [0u8; tree_files::ROOM];
-    let first = faults::automaton_file(random, a, records, &mut automaton, faults);
-    let second = faults::tree_file(random, a, nodes, size, &mut tree, faults);
-    let room = faults::room(random, budget, faults);
+    let mut tree = [0u8; damaged_trees::ROOM];
+    let first = watch_faults::automaton_file(random, a, records, &mut automaton, faults);
+    let second = watch_faults::tree_file(random, a, nodes, size, &mut tree, faults);
+    let room = watch_faults::room(random, budget, faults);
     let q = Question {
         automaton: first,
         tree: second,
@@ -92,16 +88,16 @@ fn ask(
 // The pair of that number.
 fn one(counts: &mut [usize], k: usize, family: usize) {
     let mut random = seed(k);
-    let mut nodes = [0usize; trees::ROOM];
+    let mut nodes = [0usize; large_trees::ROOM];
     let mut records = [0u8; 2560];
-    let first = automata::start(&mut random, family);
-    let size = trees::make(&mut random, &mut nodes, first.symbols, first.branches);
-    let a = automata::make(&mut random, &nodes, &mut records, first, family);
-    let faults = faults::of_pair(&mut random, k, a);
-    let budget = faults::budget(&mut random, a, &records, &nodes, size, faults);
-    let b = faults::with_start(&mut random, a, faults);
-    let c = faults::with_rules(&mut random, &mut records, b, faults);
-    count_if(counts, SEVERAL, faults::several(faults));
+    let first = walks::start(&mut random, family);
+    let size = large_trees::make(&mut random, &mut nodes, first.symbols, first.branches);
+    let a = walks::make(&mut random, &nodes, &mut records, first, family);
+    let faults = watch_faults::of_pair(&mut random, k, a);
+    let budget = watch_faults::budget(&mut random, a, &records, &nodes, size, faults);
+    let b = watch_faults::with_start(&mut random, a, faults);
+    let c = watch_faults::with_rules(&mut random, &mut records, b, faults);
+    count_if(counts, SEVERAL, watch_faults::several(faults));
     ask(
         counts,
         &mut random,
@@ -116,7 +112,7 @@ fn one(counts: &mut [usize], k: usize, family: usize) {
 }
 
 fn run(counts: &mut [usize]) {
-    for k in 0..PAIRS * automata::FAMILIES {
+    for k in 0..PAIRS * walks::FAMILIES {
         one(counts, k, k / PAIRS);
     }
 }

@@ -1,9 +1,8 @@
-// What is wrong with an input: one thing at least, often more.
+// What is wrong with an input when a run is watched (document 02, W7): one thing at least, often more. It has nothing of the engine.
 use damaged::Damaged;
 use followed::follow::configurations;
 use followed::follow::follow;
 use followed::limits;
-use followed::tree_files;
 use sampling::access::has;
 use sampling::access::modulo;
 use sampling::access::only;
@@ -14,7 +13,6 @@ use sampling::rules;
 use sampling::rules::Automaton;
 use sampling::rules::Rule;
 use search::files;
-use walks::automata;
 
 // A set of faults has the numbers of these: the automaton's file, the tree's, two rules that contradict each other, no start state or several, the
 // budget, the log's length.
@@ -88,9 +86,9 @@ fn with_rule(random: &mut u64, records: &mut [u8], a: Automaton) -> Automaton {
     if !has_rules(a) {
         return a;
     }
-    let rule = automata::record(records, draw(random, a.rules));
+    let rule = walks::record(records, draw(random, a.rules));
     let other = other_rule(random, a, rule);
-    automata::add_anywhere(random, records, a, other)
+    walks::add_anywhere(random, records, a, other)
 }
 
 // No state, or some states but not one.
@@ -133,7 +131,7 @@ pub fn automaton_file(
     if has(faults, AUTOMATON_FILE) {
         damaged::make(random, a, records, file)
     } else {
-        tree_files::refused(files::write_automaton(file, a, records), 0, 0)
+        damaged_trees::refused(files::write_automaton(file, a, records), 0, 0)
     }
 }
 
@@ -147,9 +145,9 @@ pub fn tree_file(
     faults: u32,
 ) -> Damaged {
     if has(faults, TREE_FILE) {
-        tree_files::make(random, a, nodes, size, file)
+        damaged_trees::make(random, a, nodes, size, file)
     } else {
-        tree_files::refused(tree_files::write(file, nodes, size), 0, 0)
+        damaged_trees::refused(damaged_trees::write(file, nodes, size), 0, 0)
     }
 }
 

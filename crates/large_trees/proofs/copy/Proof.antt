@@ -1,11 +1,11 @@
--- `walks::trees::copy` ends, after the last number.
+-- `large_trees::copy` ends, after the last number.
 -- Assumes nothing.
 use borrow.Author.Needs.{needs}
 use Prim.Native.Nat.{_-_, _≤_}
 use mathlib.Core.Path.{_≡_}
 use lib.ListN.{length}
-use Rattle.walks.proofs.trees.copy.Statement.{statement}
-use Rattle.walks.proofs.trees.copy.Tie as tie
+use Rattle.large_trees.proofs.copy.Statement.{statement}
+use Rattle.large_trees.proofs.copy.Tie as tie
 
 abbrev Inv-loop : tie.InvT-loop
 Inv-loop nodes₀ from size behind deeper i₀ i-end nodes i = (i ≤ i-end) × (i-end ≤ 32768) × (length nodes ≡ length nodes₀)

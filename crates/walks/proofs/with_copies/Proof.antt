@@ -1,11 +1,11 @@
--- `walks::automata::with_copies` ends, after one turn for each copy.
+-- `walks::with_copies` ends, after one turn for each copy.
 -- Assumes nothing.
 use borrow.Author.Needs.{needs}
 use Prim.Native.Nat.{_-_, _≤_}
 use mathlib.Core.Path.{_≡_}
 use lib.ListN.{length}
-use Rattle.walks.proofs.automata.with_copies.Statement.{statement}
-use Rattle.walks.proofs.automata.with_copies.Tie as tie
+use Rattle.walks.proofs.with_copies.Statement.{statement}
+use Rattle.walks.proofs.with_copies.Tie as tie
 
 abbrev Inv-loop : tie.InvT-loop
 Inv-loop random₀ records₀ n result₀ counter₀ random records result counter = (counter ≤ n) × (length records ≡ length records₀)

@@ -1,11 +1,11 @@
--- `followed::tree_files::list` ends, after the last node.
+-- `damaged_trees::list` ends, after the last node.
 -- Assumes nothing.
 use borrow.Author.Needs.{needs}
 use Prim.Native.Nat.{_-_, _≤_}
 use mathlib.Core.Path.{_≡_}
 use lib.ListN.{length}
-use Rattle.followed.proofs.tree_files.list.Statement.{statement}
-use Rattle.followed.proofs.tree_files.list.Tie as tie
+use Rattle.damaged_trees.proofs.list.Statement.{statement}
+use Rattle.damaged_trees.proofs.list.Tie as tie
 
 abbrev Inv-loop : tie.InvT-loop
 Inv-loop nodes symbols₀ size i₀ symbols i = (i ≤ size) × (length symbols ≡ length symbols₀)

@@ -1,4 +1,5 @@
-// Files of trees, right and damaged. A damaged one has the refusal that document 01 has for it, from the way it was damaged: nothing reads the file.
+// Files of trees, right and damaged. A damaged one has the refusal that document 01 has for it, from the way it was damaged: nothing reads
+// the file. It has nothing of the engine.
 ghost use Prim.Native.Nat.{_≤_};
 use damaged::Damaged;
 use sampling::access::set_byte;
@@ -9,7 +10,6 @@ use search::files;
 use search::trees::SYMBOL;
 use search::trees::Shape;
 use search::trees::grow;
-use walks::trees;
 
 // The room for a file, and for one that is too long.
 pub const ROOM: usize = 5632;
@@ -24,7 +24,7 @@ pub fn refused(length: usize, number: usize, place: usize) -> Damaged {
 
 fn list(nodes: &[usize], symbols: &mut [u8], size: usize) {
     for i in 0..size {
-        set_byte(symbols, i, trees::get(nodes, i, SYMBOL));
+        set_byte(symbols, i, large_trees::get(nodes, i, SYMBOL));
     }
 }
 
@@ -132,7 +132,7 @@ fn wrong_count(random: &mut u64, file: &mut [u8], nodes: &[usize], size: usize) 
 
 // A comb or a zigzag that is too high.
 fn wrong_height(random: &mut u64, file: &mut [u8], a: Automaton) -> Damaged {
-    let mut nodes = [0usize; trees::ROOM];
+    let mut nodes = [0usize; large_trees::ROOM];
     let kind = 1 + draw(random, 3);
     let height = 65 + draw(random, 8);
     let shape = Shape {
@@ -145,7 +145,7 @@ fn wrong_height(random: &mut u64, file: &mut [u8], a: Automaton) -> Damaged {
     refused(
         write(file, &nodes, size),
         12,
-        trees::first_at(&nodes, size, 65),
+        large_trees::first_at(&nodes, size, 65),
     )
 }
 

@@ -1,11 +1,11 @@
--- `walks::automata::swap` ends, after five bytes.
+-- `walks::swap` ends, after five bytes.
 -- Assumes nothing.
 use borrow.Author.Needs.{needs}
 use Prim.Native.Nat.{_-_, _≤_}
 use mathlib.Core.Path.{_≡_}
 use lib.ListN.{length}
-use Rattle.walks.proofs.automata.swap.Statement.{statement}
-use Rattle.walks.proofs.automata.swap.Tie as tie
+use Rattle.walks.proofs.swap.Statement.{statement}
+use Rattle.walks.proofs.swap.Tie as tie
 
 abbrev Inv-loop : tie.InvT-loop
 Inv-loop records₀ i j field₀ records field = (field ≤ 5) × (length records ≡ length records₀)

@@ -1,9 +1,9 @@
--- `walks::trees::first_at` ends, at the last node at the latest.
+-- `large_trees::first_at` ends, at the last node at the latest.
 -- Assumes nothing.
 use borrow.Author.Needs.{needs}
 use Prim.Native.Nat.{_-_, _≤_}
-use Rattle.walks.proofs.trees.first_at.Statement.{statement}
-use Rattle.walks.proofs.trees.first_at.Tie as tie
+use Rattle.large_trees.proofs.first_at.Statement.{statement}
+use Rattle.large_trees.proofs.first_at.Tie as tie
 
 abbrev Inv-loop : tie.InvT-loop
 Inv-loop nodes size depth node₀ node = node ≤ size
