@@ -2,49 +2,17 @@
 // pair has a fault or several. All bytes of the log are compared. Where there is no fault the search over all configurations has to accept the tree
 // exactly if the run passed, and a budget of nodes times states is never spent. It writes how the runs end, the refusals by number, and how often the
 // engine differs.
-mod engine;
-
-use followed::answer;
-use followed::answer::Expected;
 use followed::answer::Question;
-use followed::limits;
 use sampling::random::seed;
 use sampling::rules::Automaton;
 use search::files;
+use watch_answers::PAIRS;
+use watch_answers::compare_answers;
 use watch_trials::counts;
 use watch_trials::counts::COUNTS;
-use watch_trials::counts::DIFFERENCES;
 use watch_trials::counts::SEVERAL;
 use watch_trials::counts::count_if;
-use watch_trials::logs;
 use watch_trials::searched;
-
-// The pairs of each family.
-const PAIRS: usize = 2000;
-
-// Counts what has to be answered and whether it is; gives back what the engine answers.
-fn compare_answers(
-    counts: &mut [usize],
-    k: usize,
-    a: Automaton,
-    records: &[u8],
-    nodes: &[usize],
-    size: usize,
-    q: Question,
-    automaton: &[u8],
-    tree: &[u8],
-) -> Expected {
-    let mut log = [0u8; limits::ROOM];
-    let n = logs::end(q.room);
-    logs::fill(&mut log, n, k);
-    let mut right = log;
-    let expected = answer::expected_of(a, records, nodes, size, q, &mut right);
-    let found = engine::answer(automaton, tree, q.budget, &mut log, q.room);
-    let same = engine::same(found, expected) && logs::same_bytes(&log, &right, n);
-    counts::count_answer(counts, k / PAIRS, expected);
-    count_if(counts, DIFFERENCES, !same);
-    found
-}
 
 // Makes the files and the log's length, and compares.
 fn ask(
