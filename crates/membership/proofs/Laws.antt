@@ -4,8 +4,9 @@ use Prim.Native.Nat.{ℕ, zero, suc, _≤_, _<_}
 use mathlib.Core.Path.{_≡_}
 use mathlib.Core.Bool.{Bool}
 use mathlib.Core.List.{List, [], _∷_}
+use native.Mathlib.Decide.{decLt}
 use native.Mathlib.Omega.{arith}
-use lib.ListN.{getD, take}
+use lib.ListN.{length, getD, take, List·getD-eq-default}
 use Rattle.relation.specs.Rows.{meeting}
 use Rattle.model.specs.Trees.{Tree}
 use Rattle.model.specs.declared.Place.{Place}
@@ -31,12 +32,20 @@ pub accepts-by : (A : Automaton) (t : Tree) (initial final : ℕ) (rows : List �
 unfolding accepts?
 accepts-by A t initial final rows b i f l m = accepted-by A initial final rows (loops A Place.Root t) b i f l m
 
--- symbols below their count, which is at most 32, are below 32, and so is what stands past the end
-pub below-32 : (m : ℕ) (s : List ℕ) → m ≤ 32 → Below m s → (i : ℕ) → getD s i 0 < 32
+-- each symbol of a list whose symbols are below their count
+pub below-at : (m : ℕ) (s : List ℕ) → Below m s → (i : ℕ) → i < length s → getD s i 0 < m
 unfolding Below
-below-32 m [] l h i = omega arith
-below-32 m (σ ∷ s) l h zero = omega (arith, h .0)
-below-32 m (σ ∷ s) l h (suc i) = below-32 m s l (h .1) i
+below-at m [] h i l = absurd (omega arith)
+below-at m (σ ∷ s) h zero l = h .0
+below-at m (σ ∷ s) h (suc i) l = below-at m s (h .1) i (omega arith)
+
+-- where the count is at most 32 it is below 32, and so is what stands past the end
+below-32 : (m : ℕ) (s : List ℕ) → m ≤ 32 → Below m s → (i : ℕ) → getD s i 0 < 32
+below-32 m s l h i = by (decLt i (length s))
+  where
+    by : Dec (i < length s) → getD s i 0 < 32
+    by (yes k) = omega (arith, below-at m s h i k)
+    by (no k) = rw (List·getD-eq-default s 0 {n = i} (omega arith)) (omega arith)
 
 pub written-below : (sg : Signature) (s : List ℕ) (t : Tree) → sg .symbols ≤ 32 → Writes sg s t → (i : ℕ) → getD s i 0 < 32
 written-below sg s t l w = below-32 (sg .symbols) s l (rw (w .text) (shaped-over sg t (w .over) .1))

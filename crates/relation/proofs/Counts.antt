@@ -67,15 +67,16 @@ rows-few (suc m) n (row ∷ rows) h =
 pub count-within : (n : ℕ) (R : List ℕ) → Within n R → countOf R ≤ n * n
 count-within n R w = rows-few n n R (w .inside)
 
--- ---- at most one pair
+-- ---- at most one member, and at most one pair
 
-bits-some : (d x q : ℕ) → q < d → bit x q ≡ 1 → 1 ≤ bitsOf d x
+-- a member is counted
+pub bits-some : (d x q : ℕ) → q < d → bit x q ≡ 1 → 1 ≤ bitsOf d x
 bits-some zero x q l e = absurd (omega arith)
 bits-some (suc d) x zero l e = omega (arith, bit-low x)
 bits-some (suc d) x (suc q) l e = omega (arith, bits-some d (x / 2) q (omega arith) (bit-half x q ∙ e))
 
 -- two members of a set that counts one are the same
-bits-same : (d x p q : ℕ) → bitsOf d x ≤ 1 → p < d → q < d → bit x p ≡ 1 → bit x q ≡ 1 → p ≡ q
+pub bits-same : (d x p q : ℕ) → bitsOf d x ≤ 1 → p < d → q < d → bit x p ≡ 1 → bit x q ≡ 1 → p ≡ q
 bits-same zero x p q n l m e f = absurd (omega arith)
 bits-same (suc d) x zero zero n l m e f = refl
 bits-same (suc d) x zero (suc q) n l m e f =
@@ -86,7 +87,7 @@ bits-same (suc d) x (suc p) (suc q) n l m e f =
     ap suc (bits-same d (x / 2) p q (omega arith) (omega arith) (omega arith) (bit-half x p ∙ e) (bit-half x q ∙ f))
 
 -- a set of which all members are the same counts one at the most
-bits-one : (d x : ℕ) → ((p q : ℕ) → bit x p ≡ 1 → bit x q ≡ 1 → p ≡ q) → bitsOf d x ≤ 1
+pub bits-one : (d x : ℕ) → ((p q : ℕ) → bit x p ≡ 1 → bit x q ≡ 1 → p ≡ q) → bitsOf d x ≤ 1
 bits-one zero x h = omega arith
 bits-one (suc d) x h = low (decLt (x % 2) 1) (bits-one d (x / 2) (λ p q e f. omega (arith, h (suc p) (suc q) (sym (bit-half x p) ∙ e) (sym (bit-half x q) ∙ f))))
   where

@@ -15,12 +15,12 @@ use Rattle.relation.proofs.BitLaws.{lt-of-bits}
 use Rattle.relation.proofs.LowestLaws.{lowest-lt}
 use Rattle.model.specs.declared.Side.the-variants.{Left, Right}
 use Rattle.model.specs.declared.Place.{Place}
-use Rattle.model.specs.declared.Place.the-variants.{Root, Child}
 use Rattle.model.specs.declared.Move.{Move}
 use Rattle.model.specs.declared.Move.the-variants.{Stay, Up, Down}
-use Rattle.algorithms.specs.Automaton.{Automaton, Proper}
+use Rattle.algorithms.specs.Automaton.{Automaton, In, Proper}
 use Rattle.automaton.specs.Payload.{moveByte}
 use Rattle.transitions.specs.Transitions.{placeNumber}
+use Rattle.transitions.proofs.Laws.{place-small}
 use Rattle.transitions.specs.Compiled.{Compiled}
 use Rattle.steps.specs.Choices.{Choice, Makes, Halts, orElse, firstOf, choice, codeOf, decoded, choiceCell, codeAt, Chosen}
 use Rattle.steps.specs.Successors.{goes}
@@ -57,18 +57,15 @@ decoded-first sets b =
 
 -- ---- cells
 
-place-low : (τ : Place) → placeNumber τ < 3
-place-low Root = omega arith
-place-low (Child Left) = omega arith
-place-low (Child Right) = omega arith
-
 cell-row : (a p : ℕ) → p < 24 → ((a * 24 + p) / 24 ≡ a) × ((a * 24 + p) % 24 ≡ p)
 cell-row a p h = (omega arith, omega arith)
 
+-- a set of states is a number of 24 bits
+pub states-low : (A : Automaton) → Proper A → (x : ℕ) → ((q : ℕ) → In x q → q < A .states) → x < 2 ^ 24
+states-low A proper x inside = let h : x < 2 ^ A .states = lt-of-bits x (A .states) inside in lt-of-lt-of-le h (pow-mono (proper .few))
+
 pub transitions-low : (A : Automaton) → Proper A → (σ : ℕ) (τ : Place) (μ : Move) (p : ℕ) → A .next σ τ μ p < 2 ^ 24
-transitions-low A proper σ τ μ p =
-    let h : A .next σ τ μ p < 2 ^ A .states = lt-of-bits _ (A .states) (λ q k. proper .transitions _ _ _ _ q k .1) in
-    lt-of-lt-of-le h (pow-mono (proper .few))
+transitions-low A proper σ τ μ p = states-low A proper (A .next σ τ μ p) (λ q k. proper .transitions _ _ _ _ q k .1)
 
 module _ (A : Automaton) (proper : Proper A) (table : List ℕ) (compiled : Compiled A table) where
   code-is : (σ : ℕ) (τ : Place) (p : ℕ) → σ < 32 → p < 24 → decoded (codeAt table (choiceCell σ τ p)) ≡ choice (A .next) σ τ p
@@ -86,7 +83,7 @@ module _ (A : Automaton) (proper : Proper A) (table : List ℕ) (compiled : Comp
   filled m codes few at =
       record {
         codes-are = λ σ τ p l h.
-            ap decoded (at (choiceCell σ τ p) (omega (arith, place-low τ))) ∙ code-is σ τ p (omega arith) h;
+            ap decoded (at (choiceCell σ τ p) (omega (arith, place-small τ))) ∙ code-is σ τ p (omega arith) h;
       }
 
 -- one cell more

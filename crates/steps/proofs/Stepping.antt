@@ -21,6 +21,7 @@ use Rattle.model.specs.Trees.{Tree, leaf, node, symbol}
 use Rattle.model.specs.Runs.{Position, place, Config, Step, stays, climbs, descends, Deterministic}
 use Rattle.model.proofs.Positions.{at-unique}
 use Rattle.algorithms.specs.Automaton.{Automaton, In, Δ, Proper}
+use Rattle.refusal.proofs.Passed.{clash}
 use Rattle.links.specs.Numbers.{Numbered, to-left, first}
 use Rattle.links.specs.Links.{parentsOf, rightsOf}
 use Rattle.links.proofs.Numbering.{numbered-at, number-unique}
@@ -29,9 +30,6 @@ use Rattle.steps.specs.Choices.{Choice, Makes, Halts, orElse, firstOf, c
 use Rattle.steps.specs.Successors.{to, goes, successor}
 use Rattle.steps.specs.declared.Successor.the-variants.{Nowhere}
 use Rattle.steps.proofs.Choosing.{transitions-low}
-
-clash : {X : Type 0} → _≡_ {A = ℕ} 0 1 → X
-clash e = absurd (omega arith)
 
 -- ---- the choice is a transition, and where there is none no transition is
 

@@ -1,10 +1,10 @@
 -- What the code holds of two files that were read is what following the run asks.
 -- Assumes nothing.
-use Prim.Native.Nat.{ℕ, zero, suc, _*_, _^_, _≤_, _<_}
+use Prim.Native.Nat.{ℕ, _*_, _^_, _≤_, _<_}
 use native.Mathlib.Omega.{arith}
 use native.Mathlib.Nat.{mul-le-mul}
 use mathlib.Core.Path.{_≡_, sym, ap, ap₂, _∙_, subst}
-use mathlib.Core.List.{List, [], _∷_, _++_, append-nil}
+use mathlib.Core.List.{List, [], _++_, append-nil}
 use lib.Count.{ones}
 use lib.ListN.{length, getD, drop, List·getD-append, length-append}
 use Rattle.relation.specs.Lowest.{lowestOf}
@@ -19,14 +19,9 @@ use Rattle.links.specs.Links.{parentsOf, rightsOf}
 use Rattle.links.proofs.Storing.{parents-length, rights-length}
 use Rattle.steps.specs.Choices.{Chosen}
 use Rattle.membership.specs.Judged.{signatureOf}
+use Rattle.membership.proofs.Laws.{below-at}
 use Rattle.watch.specs.Following.{Walkable, Held}
 use Rattle.watch.proofs.Starts.{one-lowest, starts-low}
-
-pub below-at : (m : ℕ) (s : List ℕ) → Below m s → (i : ℕ) → i < length s → getD s i 0 < m
-unfolding Below
-below-at m [] h i l = absurd (omega arith)
-below-at m (σ ∷ s) h zero l = h .0
-below-at m (σ ∷ s) h (suc i) l = below-at m s (h .1) i (omega arith)
 
 -- links at the front of a table
 module _ (front table rest : List ℕ) (n : ℕ) (long : length front ≡ n) (e : table ≡ front ++ rest) where

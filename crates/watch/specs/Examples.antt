@@ -1,7 +1,7 @@
 -- Walks as one table: document 01's walker A, and the readings of document 02, W7. proofs/Examples computes each.
 -- Interface: `Example`, `examples`, `walkedOf`, `shown`.
 use Prim.Native.Nat.{ℕ, _^_}
-use mathlib.Core.Bool.{Bool, true, false, _&&_}
+use mathlib.Core.Bool.{_&&_}
 use mathlib.Core.List.{List, [], _∷_}
 use lib.Dec.{eqb}
 use Rattle.model.specs.declared.Place.{Place}
@@ -10,6 +10,7 @@ use Rattle.model.specs.Trees.{Tree, leaf, node}
 use Rattle.algorithms.specs.Automaton.{Automaton}
 use Rattle.automaton.specs.Payload.{moveByte}
 use Rattle.transitions.specs.Transitions.{placeNumber}
+use Rattle.steps.specs.Choices.{either}
 use Rattle.watch.specs.Walk.{Entry, Walk, walk}
 use Rattle.watch.specs.declared.Watched.{Watched}
 
@@ -24,15 +25,11 @@ pub record Five : Type 0 where
 abbrev pub five : (symbol state place step next : ℕ) → Five
 five a b c d e = record { symbol = a; state = b; place = c; step = d; next = e }
 
-abbrev pub unlessThere : Bool → (set later : ℕ) → ℕ
-unlessThere true set later = set
-unlessThere false set later = later
-
 -- the next state of the first rule that applies
 abbrev pub nextBy : List Five → (symbol : ℕ) → Place → Move → (state : ℕ) → ℕ
 nextBy [] σ τ μ p = 0
 nextBy (r ∷ rs) σ τ μ p =
-    unlessThere (eqb (r .symbol) σ && eqb (r .state) p && eqb (r .place) (placeNumber τ) && eqb (r .step) (moveByte μ)) (2 ^ r .next) (nextBy rs σ τ μ p)
+    either (eqb (r .symbol) σ && eqb (r .state) p && eqb (r .place) (placeNumber τ) && eqb (r .step) (moveByte μ)) (2 ^ r .next) (nextBy rs σ τ μ p)
 
 -- an automaton that starts in state 0, a tree, a budget; the answer and the entries
 pub record Example : Type 0 where
