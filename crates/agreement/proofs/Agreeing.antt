@@ -85,17 +85,17 @@ module _ (a b : List ℕ) where
       here =
           rw (drop-cons a i 0 (omega (arith, h .both-have)), drop-cons b i 0 (omega (arith, h .both-have)), add-suc i 0, add-zero i)
 
-      pub searched-differs : (getD a i 0 ≡ getD b i 0 → ⊥) → (i ≡ commonBytes a b) × (i ≤ length a)
+      pub searched-differs : (getD a i 0 ≡ getD b i 0 → ⊥) → i ≡ commonBytes a b
       searched-differs n =
           let none : commonBytes (drop i a) (drop i b) ≡ 0 = rw (here, ne-eqb _ _ n) in
-          (omega (arith, h .left, none), omega (arith, h .both-have))
+          omega (arith, h .left, none)
 
       pub searched-on : getD a i 0 ≡ getD b i 0 → Searched end (i + 1)
       searched-on e =
           let more : commonBytes (drop i a) (drop i b) ≡ suc (commonBytes (drop (i + 1) a) (drop (i + 1) b)) = rw (here, eq-eqb _ _ e) in
           record { both-have = h .both-have; within = omega arith; left = omega (arith, h .left, more) }
 
-    pub searched-all : end ≤ i → (i ≡ commonBytes a b) × (i ≤ length a)
+    pub searched-all : end ≤ i → i ≡ commonBytes a b
     searched-all l =
         let most = common-within (drop i a) (drop i b) in
-        (omega (arith, h .left, h .within, h .both-have, most .0, most .1, length-drop i a, length-drop i b), omega (arith, h .within, h .both-have))
+        omega (arith, h .left, h .within, h .both-have, most .0, most .1, length-drop i a, length-drop i b)

@@ -4,7 +4,7 @@ use borrow.Author.Needs.{needs}
 use native.Mathlib.Omega.{arith}
 use mathlib.Core.Path.{refl, sym}
 use lib.Seq.{length-take-le}
-use Rattle.agreement.proofs.Agreeing.{common-longest}
+use Rattle.agreement.proofs.Agreeing.{common-within, common-longest}
 use Rattle.agreement.proofs.common.Statement.{statement}
 use Rattle.agreement.proofs.common.Tie as tie
 
@@ -15,10 +15,13 @@ mul-end : tie.Need-mul-end
 mul-end c = search needs
 
 slice-aggregate-result : tie.Need-slice-aggregate-result
-slice-aggregate-result c = sym (length-take-le _ _ (omega (arith, c .before .common-bytes .ensures .1)))
+slice-aggregate-result c =
+    let given = c .before .before .before .before .args in
+    let most = common-within (given .first .now) (given .second .now) in
+    sym (length-take-le _ _ (omega (arith, c .before .common-bytes .ensures, most .0, most .1)))
 
 returns : tie.Need-returns
-returns c = (rw (c .before .common-bytes .ensures .0) refl, common-longest _ _)
+returns c = (refl, (rw (c .before .common-bytes .ensures) refl, common-longest _ _))
 
 pub common-spec : {M : Type 1} → statement M
 common-spec = tie.close (tie.spec common-bytes-requires mul-end slice-aggregate-result returns)
