@@ -113,7 +113,7 @@ module _ (A : Automaton) (t : Tree) where
       clash (cc)
 
   -- a choice that leads to a node is a step
-  led : {u : Tree} {i : ℕ} {α : Position} (n : Numbered t i α u) {p : ℕ} (μ : Move) (j q r : ℕ)
+  pub led : {u : Tree} {i : ℕ} {α : Position} (n : Numbered t i α u) {p : ℕ} (μ : Move) (j q r : ℕ)
       → goes (parentsOf t) (rightsOf t) i (Makes μ r) ≡ to j q → Δ A (symbol u) p (place Root α) μ r → Led A t α p j q
   led {u} {i} {α} n {p} Stay j q r e d =
       let f = same-to i j r q e in
@@ -135,19 +135,19 @@ module _ (A : Automaton) (t : Tree) where
       record { position = Right ∷ α; tree = y; named = rw (f .0) at (linked-own n .right σ x y refl); step = descends (numbered-at n) (rw (f .1) at d) }
 
   -- the node that a step leads to
-  record Goes (i : ℕ) (β : Position) (μ : Move) (q : ℕ) : Type 0 where
-    target : ℕ
-    tree : Tree
-    named : Numbered t target β tree
-    goes-is : goes (parentsOf t) (rightsOf t) i (Makes μ q) ≡ to target q
+  pub record Goes (i : ℕ) (β : Position) (μ : Move) (q : ℕ) : Type 0 where
+    pub target : ℕ
+    pub tree : Tree
+    pub named : Numbered t target β tree
+    pub goes-is : goes (parentsOf t) (rightsOf t) i (Makes μ q) ≡ to target q
 
   -- the move of a step, and its node
   pub record Made (u : Tree) (i : ℕ) (c d : Config) : Type 0 where
-    move : Move
-    allows : Δ A (symbol u) (c .1) (place Root (c .0)) move (d .1)
-    to-node : Goes i (d .0) move (d .1)
+    pub move : Move
+    pub allows : Δ A (symbol u) (c .1) (place Root (c .0)) move (d .1)
+    pub to-node : Goes i (d .0) move (d .1)
 
-  made : {u : Tree} {i : ℕ} {c d : Config} → Numbered t i (c .0) u → Step (Δ A) Root t c d → Made u i c d
+  pub made : {u : Tree} {i : ℕ} {c d : Config} → Numbered t i (c .0) u → Step (Δ A) Root t c d → Made u i c d
   made {u} {i} n (stays {u = v} a k) =
       let e : v ≡ u = at-unique a (numbered-at n) in
       record { move = Stay; allows = rw e at k; to-node = record { target = i; tree = u; named = n; goes-is = refl } }

@@ -1,4 +1,7 @@
-// One step by node numbers: the transition that an automaton makes at a node, from a table of them, and the node that it leads to.
+// One step by node numbers: the transition that an automaton makes at a node, from a table of them, and the node that it leads to; and whether some
+// transition leads from one configuration to another.
+pub mod leads;
+
 use links::place_at;
 use model::Place;
 use model::State;
