@@ -1,3 +1,4 @@
 pub mod Numbering
 pub mod Linking
 pub mod Storing
+pub mod Tabling

@@ -1,7 +1,7 @@
 -- Whether some step leads from one configuration to another, by node numbers: exactly where a `Step` of the model does.
 -- Assumes nothing.
-use Prim.Native.Nat.{ℕ}
-use mathlib.Core.Path.{_≡_, refl, sym, ap, _∙_}
+use Prim.Native.Nat.{ℕ, _<_}
+use mathlib.Core.Path.{_≡_, refl, sym, ap, ap₂, _∙_}
 use mathlib.Core.Bool.{Bool, true, false, _&&_, _||_}
 use mathlib.Core.List.{List}
 use lib.Dec.{eqb}
@@ -14,19 +14,21 @@ use Rattle.model.specs.declared.Place.{Place}
 use Rattle.model.specs.declared.Place.the-variants.{Root}
 use Rattle.model.specs.declared.Move.{Move}
 use Rattle.model.specs.declared.Move.the-variants.{Stay, Up, Down}
-use Rattle.model.specs.Trees.{Tree, symbol}
+use Rattle.model.specs.Trees.{Tree, symbol, size}
 use Rattle.model.specs.Runs.{Position, place}
 use Rattle.algorithms.specs.Automaton.{Automaton, In, Δ}
 use Rattle.refusal.proofs.Passed.{clash, and-is-true}
-use Rattle.transitions.specs.Compiled.{Next}
+use Rattle.transitions.specs.Compiled.{Next, nextIn, Compiled}
 use Rattle.links.specs.Numbers.{Numbered}
-use Rattle.links.specs.Links.{parentsOf, rightsOf}
+use Rattle.links.specs.Links.{parentsOf, rightsOf, placeIn}
+use Rattle.links.specs.Tables.{Tables}
 use Rattle.links.proofs.Numbering.{number-unique}
 use Rattle.links.proofs.Linking.{linked-own, symbol-is}
+use Rattle.links.proofs.Tabling.{symbol-read, place-read}
 use Rattle.steps.specs.Choices.{Makes}
 use Rattle.steps.specs.Successors.{to, unless, goes}
-use Rattle.steps.specs.Leads.{arrives, leadsBy, someMove, leads}
-use Rattle.steps.proofs.Stepping.{Led, led, made}
+use Rattle.steps.specs.Leads.{arrives, leadsBy, someMove, leadsIn, leads}
+use Rattle.steps.proofs.Stepping.{Led, led, made, goes-read}
 
 -- ---- some move
 
@@ -117,3 +119,17 @@ module _ (A : Automaton) (t : Tree) {u : Tree} {i : ℕ} {α : Position} (n : Nu
       let same : g .target ≡ j = number-unique (g .named) (l .named) .0 in
       here ∙ true-some by-move (m .move)
       (simp (g .goes-is, eq-eqb (g .target) j same, member-has (A .next (symbol u) (place Root α) (m .move) p) q .1 (m .allows)))
+
+-- ---- by what the code reads: the compiled transitions, the node list and its links
+
+module _ (A : Automaton) {table : List ℕ} (compiled : Compiled A table) {t : Tree} {s P R : List ℕ} (tables : Tables t s P R)
+    (i : ℕ) (l : i < size t) (low : getD s i 0 < 32) (p : ℕ) (few : p < 24) (j q : ℕ) where
+  move-read : (μ : Move) → leadsBy (nextIn table) P R (getD s i 0) (placeIn P i) i p j q μ
+      ≡ leadsBy (A .next) (parentsOf t) (rightsOf t) (getD s i 0) (placeIn P i) i p j q μ
+  move-read μ = rw (goes-read tables i l (Makes μ q), compiled .cells (getD s i 0) (placeIn P i) μ p low few)
+
+  pub leads-read : leadsIn (nextIn table) s P R i p j q ≡ leads A t i p j q
+  unfolding leads
+  leads-read =
+      ap someMove (λ n μ. move-read μ n)
+      ∙ ap₂ (λ (σ : ℕ) (τ : Place). someMove (leadsBy (A .next) (parentsOf t) (rightsOf t) σ τ i p j q)) (symbol-read tables i l) (place-read tables i l)

@@ -3,7 +3,7 @@
 use Prim.Native.Nat.{ℕ, zero, suc, _+_, _^_, _<_}
 use native.Mathlib.Omega.{arith}
 use mathlib.Core.Path.{_≡_, refl, sym, ap, _∙_, subst}
-use mathlib.Core.List.{[], _∷_}
+use mathlib.Core.List.{List, [], _∷_}
 use lib.ListN.{getD}
 use borrow.Author.Tests.{eq-eqb, ne-eqb}
 use Rattle.relation.specs.Bit.{bit}
@@ -17,14 +17,15 @@ use Rattle.model.specs.declared.Place.the-variants.{Root}
 use Rattle.model.specs.declared.Move.{Move}
 use Rattle.model.specs.declared.State.{State}
 use Rattle.model.specs.declared.Move.the-variants.{Stay, Up, Down}
-use Rattle.model.specs.Trees.{Tree, leaf, node, symbol}
+use Rattle.model.specs.Trees.{Tree, leaf, node, symbol, size}
 use Rattle.model.specs.Runs.{Position, place, Config, Step, stays, climbs, descends, Deterministic}
 use Rattle.model.proofs.Positions.{at-unique}
 use Rattle.algorithms.specs.Automaton.{Automaton, In, Δ, Proper}
 use Rattle.refusal.proofs.Passed.{clash}
 use Rattle.links.specs.Numbers.{Numbered, to-left, first}
 use Rattle.links.specs.Links.{parentsOf, rightsOf}
-use Rattle.links.proofs.Numbering.{numbered-at, number-unique}
+use Rattle.links.specs.Tables.{Tables}
+use Rattle.links.proofs.Numbering.{some-nodes, numbered-at, number-unique, numbered-within}
 use Rattle.links.proofs.Linking.{linked-own, symbol-is, named-once}
 use Rattle.steps.specs.Choices.{Choice, Makes, Halts, orElse, firstOf, choice}
 use Rattle.steps.specs.Successors.{to, goes, successor}
@@ -183,6 +184,23 @@ module _ (A : Automaton) (t : Tree) where
               goes-is = rw (ne-eqb (getD (rightsOf t) i 0) 0 (right-part m));
             };
       })
+
+-- where a choice leads is by the node's links alone
+pub goes-read : {t : Tree} {s P R : List ℕ} → Tables t s P R → (i : ℕ) → i < size t → (c : Choice) → goes P R i c ≡ goes (parentsOf t) (rightsOf t) i c
+goes-read h i l (Makes Stay q) = refl
+goes-read h i l (Makes Up q) = rw (h .parents-are i l)
+goes-read h i l (Makes (Down Left) q) = rw (h .rights-are i l)
+goes-read h i l (Makes (Down Right) q) = rw (h .rights-are i l)
+goes-read h i l Halts = refl
+
+-- a step leads into a state, at a node
+pub into-state : (A : Automaton) → Proper A → {t : Tree} {c d : Config} → Step (Δ A) Root t c d → d .1 < A .states
+into-state A proper (stays a k) = proper .transitions _ _ _ _ _ k .1
+into-state A proper (climbs a k) = proper .transitions _ _ _ _ _ k .1
+into-state A proper (descends a k) = proper .transitions _ _ _ _ _ k .1
+
+pub into-node : {A : Automaton} {t : Tree} {α : Position} {p j q : ℕ} → Led A t α p j q → j < size t
+into-node l = omega (arith, numbered-within (l .named), some-nodes (l .tree))
 
 -- ---- the step of an automaton
 

@@ -12,13 +12,12 @@ use Rattle.model.specs.Lists.{_∈_, countFrom}
 use Rattle.model.specs.Trees.{Tree, size}
 use Rattle.model.proofs.ListLaws.{mem-countFrom, of-countFrom}
 use Rattle.algorithms.specs.Automaton.{Automaton, Proper}
-use Rattle.links.proofs.Numbering.{some-nodes, numbered-within, all-named}
+use Rattle.links.proofs.Numbering.{all-named}
 use Rattle.steps.specs.Successors.{successor}
 use Rattle.steps.specs.declared.Successor.{Successor}
 use Rattle.steps.specs.declared.Successor.the-variants.{To, Nowhere}
-use Rattle.steps.proofs.Stepping.{step-led}
+use Rattle.steps.proofs.Stepping.{into-state, into-node, step-led}
 use Rattle.watch.specs.Walk.{Entry}
-use Rattle.watch.proofs.Going.{into-state}
 
 -- ---- the list
 
@@ -99,4 +98,4 @@ module _ (A : Automaton) (proper : Proper A) (t : Tree) where
           let inside = of-grid (size t) (A .states) m in
           let named = all-named t (e .0) (inside .0) in
           let l = step-led A proper t (named .2) (e .1) j (q .0) g in
-          mem-grid (size t) (A .states) j (q .0) (omega (arith, numbered-within (l .named), some-nodes (l .tree))) (into-state A proper (l .step))
+          mem-grid (size t) (A .states) j (q .0) (into-node l) (into-state A proper (l .step))

@@ -8,34 +8,24 @@ use mathlib.Core.List.{List}
 use lib.Dec.{eqb}
 use lib.ListN.{length, getD, length-set}
 use Rattle.relation.specs.Sets.{member}
-use Rattle.model.specs.declared.Side.the-variants.{Left, Right}
 use Rattle.model.specs.declared.State.{State}
 use Rattle.model.specs.declared.Place.{Place}
-use Rattle.model.specs.declared.Move.the-variants.{Stay, Up, Down}
-use Rattle.model.specs.declared.Place.the-variants.{Root}
 use Rattle.model.specs.Trees.{Tree, size}
-use Rattle.model.specs.Runs.{Config, Step, stays, climbs, descends}
-use Rattle.algorithms.specs.Automaton.{Automaton, Δ, Proper}
-use Rattle.nodes.proofs.Standing.{size-preorder}
+use Rattle.algorithms.specs.Automaton.{Automaton, Proper}
 use Rattle.links.specs.Links.{parentsOf, rightsOf, placeIn}
-use Rattle.links.proofs.Numbering.{some-nodes, numbered-within, all-named}
-use Rattle.steps.specs.Choices.{Choice, Makes, Halts, decoded, choiceCell, choice}
+use Rattle.links.proofs.Numbering.{some-nodes, all-named}
+use Rattle.links.proofs.Tabling.{node-within, symbol-read, place-read}
+use Rattle.steps.specs.Choices.{decoded, choiceCell, choice}
 use Rattle.steps.specs.Successors.{to, goes, successor}
 use Rattle.steps.specs.declared.Successor.{Successor}
 use Rattle.steps.specs.declared.Successor.the-variants.{To, Nowhere}
-use Rattle.steps.proofs.Stepping.{step-led}
+use Rattle.steps.proofs.Stepping.{goes-read, into-state, into-node, step-led}
 use Rattle.watch.specs.Walk.{Walk, ends, passes, mostSteps, walkFrom, walk}
 use Rattle.watch.specs.Checks.{logLength}
 use Rattle.watch.specs.Following.{putEntry, Walkable, Followed}
 use Rattle.watch.specs.declared.Watched.{Watched}
 use Rattle.watch.proofs.Turns.{walk-passed, walk-stuck, walk-circling, walk-spent, walk-on, few-entries}
 use Rattle.watch.proofs.Logs.{written, written-log}
-
--- a step leads into a state
-pub into-state : (A : Automaton) → Proper A → {t : Tree} {c d : Config} → Step (Δ A) Root t c d → d .1 < A .states
-into-state A proper (stays a k) = proper .transitions _ _ _ _ _ k .1
-into-state A proper (climbs a k) = proper .transitions _ _ _ _ _ k .1
-into-state A proper (descends a k) = proper .transitions _ _ _ _ _ k .1
 
 -- ---- the loop's invariant
 
@@ -83,7 +73,7 @@ module _ (A : Automaton) (t : Tree) (start budget : ℕ) (before : List ℕ) whe
         record {
           within = omega (arith, g .within);
           sized = simp length-set (g .sized);
-          node = omega (arith, numbered-within (l .named), some-nodes (l .tree));
+          node = into-node l;
           state = into-state A proper (l .step);
           answer = g .answer ∙ ap (λ (w : Walk). w .answer) on;
           bytes = g .bytes ∙ ap (λ (w : Walk). written log made (w .entries)) on;
@@ -105,44 +95,25 @@ module _ {accepting most start : ℕ} {s codes P R : List ℕ} (w : Walkable acc
   state-low : p < 24
   state-low = omega (arith, g .state, w .proper .few)
 
-  node-low : i < 65536
-  node-low = omega (arith, g .node, w .few-nodes)
-
   -- what a step asks
   pub step-asks : (i < length s) × (i < length P) × (i < length R) × (i < 65536) × (getD s i 0 < 32) × (p < 24)
-  step-asks =
-      let long : length s ≡ size t = ap length (w .nodes-are) ∙ size-preorder t in
-      (omega (arith, g .node), omega (arith, g .node, w .parents-long), omega (arith, g .node, w .rights-long), node-low, node-symbol, state-low)
+  step-asks = let n = node-within (w .tables) i (g .node) in (n .0, n .1, n .2, n .3, node-symbol, state-low)
 
   -- an entry has room
   pub entry-asks : logLength budget ≤ length before → (3 * made + 3 ≤ length log) × (i < 65536)
-  entry-asks room = (omega (arith, g .within, g .sized), node-low)
+  entry-asks room = (omega (arith, g .within, g .sized), node-within (w .tables) i (g .node) .3)
 
   pass-read : (r : Bool) → (eqb i 0 && member accepting p) ≡ r → passes A i p ≡ r
   pass-read r e = rw (w .accepting-is) e
-
-  -- the place is by the parent alone
-  place-same : (P Q : List ℕ) → getD P i 0 ≡ getD Q i 0 → placeIn P i ≡ placeIn Q i
-  unfolding placeIn
-  place-same P Q e = rw e
-
-  -- where a choice leads is by the node's links alone
-  goes-same : (c : Choice) → goes P R i c ≡ goes (parentsOf t) (rightsOf t) i c
-  goes-same (Makes Stay q) = refl
-  goes-same (Makes Up q) = rw (w .parents-are i (g .node))
-  goes-same (Makes (Down Left) q) = rw (w .rights-are i (g .node))
-  goes-same (Makes (Down Right) q) = rw (w .rights-are i (g .node))
-  goes-same Halts = refl
 
   step-read : (y : Successor) → y ≡ goes P R i (decoded (getD codes (choiceCell (getD s i 0) (placeIn P i) p) 0)) → successor A t i p ≡ y
   unfolding successor
   step-read y e =
       sym
-      (e ∙ goes-same (decoded (getD codes (choiceCell (getD s i 0) (placeIn P i) p) 0))
+      (e ∙ goes-read (w .tables) i (g .node) (decoded (getD codes (choiceCell (getD s i 0) (placeIn P i) p) 0))
       ∙ ap (goes (parentsOf t) (rightsOf t) i)
       (w .chosen .codes-are (getD s i 0) (placeIn P i) p (w .symbols i (g .node)) state-low
-      ∙ ap₂ (λ (σ : ℕ) (τ : Place). choice (A .next) σ τ p) (ap (λ (x : List ℕ). getD x i 0) (w .nodes-are))
-      (place-same P (parentsOf t) (w .parents-are i (g .node)))))
+      ∙ ap₂ (λ (σ : ℕ) (τ : Place). choice (A .next) σ τ p) (symbol-read (w .tables) i (g .node)) (place-read (w .tables) i (g .node))))
 
   module _ (room : logLength budget ≤ length before) {after : List ℕ} (e : after ≡ putEntry log made i p) where
     pub told-passed : (r : Bool) → r ≡ (eqb i 0 && member accepting p) → r ≡ true → Followed (walk A t start budget) before (Watched.Passed made) after

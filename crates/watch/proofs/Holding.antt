@@ -6,7 +6,7 @@ use native.Mathlib.Nat.{mul-le-mul}
 use mathlib.Core.Path.{_≡_, sym, ap, ap₂, _∙_, subst}
 use mathlib.Core.List.{List, [], _++_, append-nil}
 use lib.Count.{ones}
-use lib.ListN.{length, getD, drop, List·getD-append, length-append}
+use lib.ListN.{length, drop}
 use Rattle.relation.specs.Lowest.{lowestOf}
 use Rattle.model.specs.Trees.{Tree, size}
 use Rattle.algorithms.specs.Automaton.{Automaton, In, Proper}
@@ -16,20 +16,12 @@ use Rattle.nodes.specs.Preorder.{preorder, Below, Stands}
 use Rattle.nodes.proofs.Signatures.{shaped-over}
 use Rattle.nodes.proofs.Standing.{size-preorder, stands}
 use Rattle.links.specs.Links.{parentsOf, rightsOf}
-use Rattle.links.proofs.Storing.{parents-length, rights-length}
+use Rattle.links.proofs.Tabling.{tables-are}
 use Rattle.steps.specs.Choices.{Chosen}
 use Rattle.membership.specs.Judged.{signatureOf}
 use Rattle.membership.proofs.Laws.{below-at}
 use Rattle.watch.specs.Following.{Walkable, Held}
 use Rattle.watch.proofs.Starts.{one-lowest, starts-low}
-
--- links at the front of a table
-module _ (front table rest : List ℕ) (n : ℕ) (long : length front ≡ n) (e : table ≡ front ++ rest) where
-  pub front-long : n ≤ length table
-  front-long = omega (arith, ap length e, length-append front rest)
-
-  pub front-at : (i : ℕ) → i < n → getD table i 0 ≡ getD front i 0
-  front-at i h = rw e (List·getD-append front rest 0 i (omega arith))
 
 module _ {h : Header} {table s : List ℕ} (held : Held h table s) where
   abbrev A : Automaton
@@ -46,6 +38,9 @@ module _ {h : Header} {table s : List ℕ} (held : Held h table s) where
       let shape = shaped-over (signatureOf A) t (held .writes .over) .0 in
       subst (λ (b : ℕ). Stands b s 0 t) (held .headed .branches)
       (stands (A .branches) s 0 t [] shape (held .writes .text ∙ sym (append-nil (preorder t))))
+
+  pub few-nodes : size t ≤ 4096
+  few-nodes = omega (arith, nodes-long, held .few)
 
   pub most-low : length s * h .states < 2 ^ 64
   most-low = let m : length s * h .states ≤ 4096 * 24 = mul-le-mul (held .few) (held .limits .0) in omega (arith, m)
@@ -65,8 +60,6 @@ module _ {h : Header} {table s : List ℕ} (held : Held h table s) where
       let initial = held .headed .initial in
       let counted : ones (A .initial) ≡ 1 = ap ones initial ∙ one in
       let start : In (A .initial) (lowestOf (A .initial)) = one-lowest (A .initial) (starts-low A proper) counted .0 in
-      let parents = parents-length 0 0 t in
-      let rights = rights-length 0 t in
       record {
         automaton = A;
         tree = t;
@@ -76,11 +69,6 @@ module _ {h : Header} {table s : List ℕ} (held : Held h table s) where
         accepting-is = held .headed .accepting;
         starts = subst (λ (x : ℕ). lowestOf x < A .states) initial (proper .initials _ start);
         limit = ap₂ _*_ (sym nodes-long) (held .headed .tabled .states);
-        few-nodes = omega (arith, nodes-long, held .few);
-        nodes-are = held .writes .text;
+        tables = tables-are t s P R _ _ few-nodes (held .writes .text) links;
         symbols = λ i l. below-at (A .symbols) s symbols-below i (omega (arith, nodes-long));
-        parents-long = front-long (parentsOf t) P _ (size t) parents (links .0);
-        parents-are = front-at (parentsOf t) P _ (size t) parents (links .0);
-        rights-long = front-long (rightsOf t) R _ (size t) rights (links .1);
-        rights-are = front-at (rightsOf t) R _ (size t) rights (links .1);
       }

@@ -8,8 +8,8 @@ use Rattle.model.specs.Trees.{Tree, size}
 use Rattle.algorithms.specs.Automaton.{Automaton, Proper}
 use Rattle.automaton.specs.File.{WithinLimits}
 use Rattle.automaton.specs.declared.Header.{Header}
-use Rattle.nodes.specs.Preorder.{preorder, Writes}
-use Rattle.links.specs.Links.{parentsOf, rightsOf}
+use Rattle.nodes.specs.Preorder.{Writes}
+use Rattle.links.specs.Tables.{Tables}
 use Rattle.overloops.specs.Ready.{Headed}
 use Rattle.steps.specs.Choices.{Chosen}
 use Rattle.membership.specs.Judged.{signatureOf}
@@ -31,13 +31,8 @@ pub record Walkable (accepting most start : ℕ) (s codes P R : List ℕ) : Type
   pub accepting-is : automaton .accepting ≡ accepting
   pub starts : start < automaton .states
   pub limit : mostSteps automaton tree ≡ most
-  pub few-nodes : size tree ≤ 4096
-  pub nodes-are : s ≡ preorder tree
+  pub tables : Tables tree s P R
   pub symbols : (i : ℕ) → i < size tree → getD s i 0 < automaton .symbols
-  pub parents-long : size tree ≤ length P
-  pub parents-are : (i : ℕ) → i < size tree → getD P i 0 ≡ getD (parentsOf tree) i 0
-  pub rights-long : size tree ≤ length R
-  pub rights-are : (i : ℕ) → i < size tree → getD R i 0 ≡ getD (rightsOf tree) i 0
 
 -- the answer and each byte of the log are the walk's
 pub record Followed (x : Walk) (before : List ℕ) (answer : Watched) (after : List ℕ) : Type 0 where
