@@ -1,0 +1,5 @@
+pub mod Entries
+pub mod Counting
+pub mod Telling
+pub mod Runs
+pub mod Right
