@@ -3,3 +3,4 @@ pub mod Counting
 pub mod Telling
 pub mod Runs
 pub mod Right
+pub mod Comparing

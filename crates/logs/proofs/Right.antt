@@ -63,7 +63,7 @@ module _ (w s a b : List ℕ) where
     abbrev A : Automaton
     A = automatonOf h (content w)
 
-    nodes-read : comparedOf w s a b ≡ comparedTree A (treeOf (A .branches) (nodesOf k (content s))) a b
+    pub nodes-read : comparedOf w s a b ≡ comparedTree A (treeOf (A .branches) (nodesOf k (content s))) a b
     unfolding comparedBy
     nodes-read = both-read w s a b h read ∙ rw letter
 
