@@ -31,6 +31,8 @@ ghost use Rattle.markup.specs.Written.{markupOf};
 ghost use Rattle.markup.specs.Promise as markup-spec;
 ghost use Rattle.watch.specs.Watch.{outcome, watchOf};
 ghost use Rattle.watch.specs.Promise as watch-spec;
+ghost use Rattle.logs.specs.Compare.{comparedOf, partOf, toldOf};
+ghost use Rattle.logs.specs.Promise as logs-spec;
 
 // Whether an automaton's file accepts a tree's file.
 pub fn judge(automaton: &[u8], tree: &[u8]) -> Answer
@@ -95,6 +97,25 @@ pub fn watch(automaton: &[u8], tree: &[u8], budget: usize, log: &mut [u8]) -> Wa
     ensures right { λ r. ⌜ watch-spec.Promise (now (automaton .entry)) (now (tree .entry)) budget (now (log .entry)) (outcome r (now (log .exit))) ⌝ }
 {
     watch::watch(automaton, tree, budget, log)
+}
+
+// Holds two logs of an automaton's file and a tree's file together: the part in which they agree, as that part of the first log itself; told are a
+// refusal's number, file and place, and how many entries from the start of each log are a run.
+pub fn compare<'a, 'b>(
+    automaton: &[u8],
+    tree: &[u8],
+    first: &'a [u8],
+    second: &'b [u8],
+    told: &mut [usize; 5],
+) -> &'a [u8]
+    ensures itself { λ r. ⌜ r .ptr ≡ first .entry .ptr ⌝ }
+    ensures equals { λ r. ⌜ (now r ≡ partOf (comparedOf (now (automaton .entry)) (now (tree .entry)) (now (first .entry)) (now (second .entry)))
+            (now (first .entry)) (now (second .entry)))
+        × (now (told .exit) ≡ toldOf (comparedOf (now (automaton .entry)) (now (tree .entry)) (now (first .entry)) (now (second .entry)))) ⌝ }
+    ensures right { λ r. ⌜ logs-spec.Promise (now (automaton .entry)) (now (tree .entry)) (now (first .entry)) (now (second .entry)) (now r)
+        (now (told .exit)) ⌝ }
+{
+    logs::compare(automaton, tree, first, second, told)
 }
 
 // The lent tally counts one outcome more; or, where it is full, stays as it was, and refusal 14 is the answer.

@@ -9,6 +9,7 @@ use membership::Answer;
 use tally::Tally;
 use watch::Watched;
 ghost use mathlib.Core.Path.{_≡_};
+ghost use lib.ListN.{length};
 ghost use Rattle.membership.specs.Judged.{judged};
 ghost use Rattle.membership.specs.Demand2.{Demand2};
 ghost use Rattle.emptiness.specs.Surveyed.{answered, surveyed};
@@ -30,7 +31,9 @@ ghost use Rattle.markup.specs.Written.{markupOf};
 ghost use Rattle.markup.specs.Promise as markup-spec;
 ghost use Rattle.watch.specs.Watch.{outcome, watchOf};
 ghost use Rattle.watch.specs.Promise as watch-spec;
-ghost use Rattle.numbering.specs.Numbers.{answerNumber, answerTold, surveyNumber, surveyTold, quickNumber, quickTold, singleNumber, singleTold, writtenNumber, writtenTold, watchNumber, watchTold, outcomeNumbered, tallyOf, tallyNumbers, checkNumber, checkTold, judgedTally};
+ghost use Rattle.agreement.specs.Common.{commonPart};
+ghost use Rattle.logs.specs.Compare.{comparedOf};
+ghost use Rattle.numbering.specs.Numbers.{answerNumber, answerTold, surveyNumber, surveyTold, quickNumber, quickTold, singleNumber, singleTold, writtenNumber, writtenTold, watchNumber, watchTold, comparedNumber, comparedCounts, comparedTold, outcomeNumbered, tallyOf, tallyNumbers, checkNumber, checkTold, judgedTally};
 
 // Whether an automaton's file accepts a tree's file.
 #[no_mangle]
@@ -135,6 +138,27 @@ pub extern "C" fn engine_watch(
         × watch-spec.Promise (now (automaton .entry)) (now (tree .entry)) budget (now (log .entry)) (outcome a (now (log .exit)))) ⌝ }
 {
     numbering::put_watched(crate::watch(automaton, tree, budget, log), told)
+}
+
+// Holds two logs of an automaton and a tree together: the length of the part of the first in which they agree, and how many entries from the start
+// of each are a run.
+#[no_mangle]
+pub extern "C" fn engine_compare(
+    automaton: &[u8],
+    tree: &[u8],
+    first: &[u8],
+    second: &[u8],
+    counts: &mut [usize; 3],
+    told: &mut [usize; 3],
+) -> u32
+    ensures { λ r. ⌜ (r ≡ comparedNumber (comparedOf (now (automaton .entry)) (now (tree .entry)) (now (first .entry)) (now (second .entry))))
+        × (now (counts .exit) ≡ comparedCounts (comparedOf (now (automaton .entry)) (now (tree .entry)) (now (first .entry)) (now (second .entry)))
+            (length (commonPart (now (first .entry)) (now (second .entry)))))
+        × (now (told .exit) ≡ comparedTold (comparedOf (now (automaton .entry)) (now (tree .entry)) (now (first .entry)) (now (second .entry)))) ⌝ }
+{
+    let compared = logs::count(automaton, tree, first, second);
+    let part = agreement::common(first, second);
+    numbering::put_compared(compared, part.len(), counts, told)
 }
 
 // One outcome more on a tally of three numbers: accepted, other, refused.

@@ -4,3 +4,4 @@ pub mod Telling
 pub mod Runs
 pub mod Right
 pub mod Comparing
+pub mod Examples

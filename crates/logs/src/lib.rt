@@ -90,7 +90,7 @@ pub fn count(automaton: &[u8], tree: &[u8], first: &[u8], second: &[u8]) -> Comp
 }
 
 // The part of the first log in which the two agree; of a refusal, an empty part.
-pub fn part<'a, 'b>(compared: Compared, first: &'a [u8], second: &'b [u8]) -> &'a [u8]
+fn part<'a, 'b>(compared: Compared, first: &'a [u8], second: &'b [u8]) -> &'a [u8]
     ensures itself { λ r. ⌜ r .ptr ≡ first .entry .ptr ⌝ }
     ensures equals { λ r. ⌜ now r ≡ partOf compared (now (first .entry)) (now (second .entry)) ⌝ }
 {

@@ -1,6 +1,7 @@
 -- Answers as numbers, for programs in other languages: of each the number that is answered, and the three numbers told with it.
 -- Interface: `refusalTold`, `answerNumber`, `answerTold`, `surveyNumber`, `surveyTold`, `quickNumber`, `quickTold`, `singleNumber`, `singleTold`,
--- `writtenNumber`, `writtenTold`, `watchNumber`, `watchTold`, `outcomeNumbered`, `tallyOf`, `tallyNumbers`, `checkNumber`, `checkTold`, `judgedTally`.
+-- `writtenNumber`, `writtenTold`, `watchNumber`, `watchTold`, `comparedNumber`, `comparedCounts`, `comparedTold`, `outcomeNumbered`, `tallyOf`,
+-- `tallyNumbers`, `checkNumber`, `checkTold`, `judgedTally`.
 use Prim.Native.Nat.{ℕ, zero, suc}
 use mathlib.Core.List.{List, [], _∷_}
 use lib.ListN.{getD}
@@ -14,6 +15,7 @@ use Rattle.emptiness.specs.declared.Quick.{Quick}
 use Rattle.tally.specs.declared.Outcome.{Outcome}
 use Rattle.tally.specs.declared.Tally.{Tally}
 use Rattle.watch.specs.declared.Watched.{Watched}
+use Rattle.logs.specs.declared.Compared.{Compared}
 
 -- nothing is told
 abbrev pub none : List ℕ
@@ -92,6 +94,19 @@ watchTold (Watched.Stuck n) = n ∷ 0 ∷ 0 ∷ []
 watchTold (Watched.Circling n) = n ∷ 0 ∷ 0 ∷ []
 watchTold (Watched.Spent n) = n ∷ 0 ∷ 0 ∷ []
 watchTold (Watched.Refused r) = refusalTold r
+
+-- two logs held together: the length of the part, and how many entries of each are a run; all 0 where the call is refused
+abbrev pub comparedNumber : Compared → ℕ
+comparedNumber (Compared.Counted m n) = 0
+comparedNumber (Compared.Refused r) = 1
+
+abbrev pub comparedCounts : Compared → (part : ℕ) → List ℕ
+comparedCounts (Compared.Counted m n) part = part ∷ m ∷ n ∷ []
+comparedCounts (Compared.Refused r) part = none
+
+abbrev pub comparedTold : Compared → List ℕ
+comparedTold (Compared.Counted m n) = none
+comparedTold (Compared.Refused r) = refusalTold r
 
 -- counting: an outcome, and a tally, by their numbers; whether the outcome was counted
 unfoldable pub outcomeNumbered : ℕ → Outcome

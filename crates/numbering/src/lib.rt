@@ -4,6 +4,7 @@ use block_writer::Written;
 use determinism::Singleness;
 use emptiness::Quick;
 use emptiness::Survey;
+use logs::Compared;
 use membership::Answer;
 use refusal::Check;
 use refusal::Refusal;
@@ -11,7 +12,7 @@ use tally::Outcome;
 use tally::Tally;
 use watch::Watched;
 ghost use mathlib.Core.Path.{_≡_};
-ghost use Rattle.numbering.specs.Numbers.{refusalTold, answerNumber, answerTold, surveyNumber, surveyTold, quickNumber, quickTold, singleNumber, singleTold, writtenNumber, writtenTold, watchNumber, watchTold, outcomeNumbered, tallyNumbers, checkNumber, checkTold};
+ghost use Rattle.numbering.specs.Numbers.{refusalTold, answerNumber, answerTold, surveyNumber, surveyTold, quickNumber, quickTold, singleNumber, singleTold, writtenNumber, writtenTold, watchNumber, watchTold, comparedNumber, comparedCounts, comparedTold, outcomeNumbered, tallyNumbers, checkNumber, checkTold};
 
 fn put_refusal(refusal: Refusal, told: &mut [usize; 3])
     ensures { λ _. ⌜ now (told .exit) ≡ refusalTold refusal ⌝ }
@@ -132,6 +133,24 @@ pub fn put_watched(answer: Watched, told: &mut [usize; 3]) -> u32
         Watched::Refused(refusal) => {
             put_refusal(refusal, told);
             4
+        }
+    }
+}
+
+// 0 compared, with the length of the part and the two counts; 1 refused, with none.
+pub fn put_compared(compared: Compared, part: usize, counts: &mut [usize; 3], told: &mut [usize; 3]) -> u32
+    ensures { λ r. ⌜ (r ≡ comparedNumber compared) × (now (counts .exit) ≡ comparedCounts compared part) × (now (told .exit) ≡ comparedTold compared) ⌝ }
+{
+    match compared {
+        Compared::Counted(first, second) => {
+            *counts = [part, first, second];
+            *told = [0, 0, 0];
+            0
+        }
+        Compared::Refused(refusal) => {
+            *counts = [0, 0, 0];
+            put_refusal(refusal, told);
+            1
         }
     }
 }

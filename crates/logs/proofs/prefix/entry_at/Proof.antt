@@ -31,7 +31,7 @@ shared-slice-read-state : tie.Need-shared-slice-read-state
 shared-slice-read-state c = search needs
 
 mul-t9 : tie.Need-mul-t9
-mul-t9 c = record { fits = omega (arith, c .before .shared-slice-known2 .given (3 * c .before .before .before .args .k + 1)) }
+mul-t9 c = record { fits = omega (arith, c .before .before .shared-slice-known .given (3 * c .before .before .before .args .k), c .before .shared-slice-known2 .given (3 * c .before .before .before .args .k + 1)) }
 
 add-t12 : tie.Need-add-t12
 add-t12 c = record { fits = omega (arith, c .before .before .shared-slice-known .given (3 * c .before .before .before .args .k), c .before .shared-slice-known2 .given (3 * c .before .before .before .args .k + 1)) }

@@ -5,6 +5,9 @@ use mathlib.Core.Path.{sym, ap, _∙_}
 use lib.ListN.{getD}
 use borrow.Author.Tests.{not-true, not-false}
 use Rattle.relation.specs.Sets.{member}
+use Rattle.steps.specs.Choices.{Makes}
+use Rattle.steps.specs.Successors.{goes}
+use Rattle.steps.specs.Leads.{arrives}
 use Rattle.steps.proofs.Leading.{elsewhere, arrived}
 use borrow.Author.Needs.{needs}
 use Rattle.steps.proofs.leads.leads_by.Statement.{statement}
@@ -31,7 +34,7 @@ contains-requires c κs = search needs
 returns-2 : tie.Need-returns-2
 returns-2 c =
     let a = c .before .before .before .before .before .before .before .args in
-    arrived _ _ (sym (c .before .before .before .before .moves .ensures (a .to .state .0)) ∙ not-false _ (c .before .before .before .if1 .left))
+    arrived (arrives (goes (a .parents .now) (a .rights .now) (a .from .node) (Makes (a .step) (a .to .state .0))) (a .to .node)) _ (sym (c .before .before .before .before .moves .ensures (a .to .state .0)) ∙ not-false _ (c .before .before .before .if1 .left))
     (c .contains .ensures ∙ ap (λ (k : ℕ). member (getD (a .table .now) k 0) (a .to .state .0)) (c .before .before .cell .ensures .0))
 
 pub leads-by-spec : {M : Type 1} → statement M
