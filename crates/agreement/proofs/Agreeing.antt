@@ -1,10 +1,10 @@
 -- Laws of the part in which two logs agree: it is the longest there is, and no other number of entries is. For the code, the search that has come
 -- to byte i.
 -- Assumes nothing.
-use Prim.Native.Nat.{ℕ, zero, suc, _+_, _*_, _/_, _≤_, _<_, min}
+use Prim.Native.Nat.{ℕ, zero, suc, _+_, _*_, _≤_, _<_, min}
 use native.Mathlib.Nat.{add-zero, add-suc}
 use native.Mathlib.Omega.{arith}
-use mathlib.Core.Path.{_≡_, refl, sym, ap, ap₂, _∙_}
+use mathlib.Core.Path.{_≡_, refl, ap₂}
 use mathlib.Core.Bool.{Bool, true, false}
 use mathlib.Core.List.{List, [], _∷_}
 use lib.Dec.{eqb}
@@ -12,7 +12,7 @@ use lib.ListN.{length, getD, take, drop, length-drop}
 use lib.Seq.{drop-cons}
 use borrow.Author.Tests.{eqb-true, eq-eqb, ne-eqb}
 use Rattle.agreement.specs.Common.{counted, commonBytes, commonEntries}
-use Rattle.agreement.specs.Longest.{Agrees, Longest}
+use Rattle.agreement.specs.Longest.{Longest}
 
 -- ---- the bytes in common
 

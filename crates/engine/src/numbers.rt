@@ -5,6 +5,7 @@ use block_writer::Written;
 use determinism::Singleness;
 use emptiness::Quick;
 use emptiness::Survey;
+use logs::Compared;
 use membership::Answer;
 use tally::Tally;
 use watch::Watched;
@@ -32,7 +33,8 @@ ghost use Rattle.markup.specs.Promise as markup-spec;
 ghost use Rattle.watch.specs.Watch.{outcome, watchOf};
 ghost use Rattle.watch.specs.Promise as watch-spec;
 ghost use Rattle.agreement.specs.Common.{commonPart};
-ghost use Rattle.logs.specs.Compare.{comparedOf};
+ghost use Rattle.logs.specs.Compare.{comparedOf, partOf, toldOf};
+ghost use Rattle.logs.specs.Promise as logs-spec;
 ghost use Rattle.numbering.specs.Numbers.{answerNumber, answerTold, surveyNumber, surveyTold, quickNumber, quickTold, singleNumber, singleTold, writtenNumber, writtenTold, watchNumber, watchTold, comparedNumber, comparedCounts, comparedTold, outcomeNumbered, tallyOf, tallyNumbers, checkNumber, checkTold, judgedTally};
 
 // Whether an automaton's file accepts a tree's file.
@@ -151,10 +153,14 @@ pub extern "C" fn engine_compare(
     counts: &mut [usize; 3],
     told: &mut [usize; 3],
 ) -> u32
-    ensures { λ r. ⌜ (r ≡ comparedNumber (comparedOf (now (automaton .entry)) (now (tree .entry)) (now (first .entry)) (now (second .entry))))
+    ensures equals { λ r. ⌜ (r ≡ comparedNumber (comparedOf (now (automaton .entry)) (now (tree .entry)) (now (first .entry)) (now (second .entry))))
         × (now (counts .exit) ≡ comparedCounts (comparedOf (now (automaton .entry)) (now (tree .entry)) (now (first .entry)) (now (second .entry)))
             (length (commonPart (now (first .entry)) (now (second .entry)))))
         × (now (told .exit) ≡ comparedTold (comparedOf (now (automaton .entry)) (now (tree .entry)) (now (first .entry)) (now (second .entry)))) ⌝ }
+    ensures right { λ r. ⌜ ((a : Compared) × (r ≡ comparedNumber a) × (now (counts .exit) ≡ comparedCounts a (length (partOf a (now (first .entry)) (now (second .entry)))))
+        × (now (told .exit) ≡ comparedTold a)
+        × logs-spec.Promise (now (automaton .entry)) (now (tree .entry)) (now (first .entry)) (now (second .entry))
+            (partOf a (now (first .entry)) (now (second .entry))) (toldOf a)) ⌝ }
 {
     let compared = logs::count(automaton, tree, first, second);
     let part = agreement::common(first, second);

@@ -1,13 +1,13 @@
 -- The entries of a log: at an index, their number, and those of a log that was written from entries.
 -- Assumes nothing.
-use Prim.Native.Nat.{ℕ, zero, suc, _+_, _*_, _/_, _%_, _≤_, _<_}
+use Prim.Native.Nat.{ℕ, suc, _+_, _*_, _/_, _%_, _≤_, _<_}
 use native.Mathlib.Omega.{arith}
-use mathlib.Core.Path.{_≡_, refl, ap, ap₂, _∙_}
+use mathlib.Core.Path.{_≡_, refl, ap₂}
 use mathlib.Core.List.{List, [], _∷_}
-use lib.ListN.{length, getD, drop, length-drop}
+use lib.ListN.{length, drop, length-drop}
 use lib.Seq.{drop-cons}
 use Rattle.watch.specs.Walk.{Entry, bytesOf}
-use Rattle.logs.specs.Prefix.{entry, entriesOf}
+use Rattle.logs.specs.Prefix.{entriesOf}
 use Rattle.logs.specs.Counting.{entryAt}
 
 -- a log that has entry k goes on with it ..

@@ -24,7 +24,6 @@ use Rattle.tree.specs.declared.file.ParsedTree.{ParsedTree}
 use Rattle.tree.proofs.Reading.{tree-read}
 use Rattle.membership.specs.Judged.{signatureOf}
 use Rattle.agreement.specs.Common.{commonEntries}
-use Rattle.agreement.specs.Longest.{Longest}
 use Rattle.agreement.proofs.Agreeing.{common-longest}
 use Rattle.logs.specs.Prefix.{entriesOf, runPrefix}
 use Rattle.logs.specs.Checks.{logsCheck}
@@ -92,3 +91,7 @@ module _ (w s a b : List ℕ) where
       let f′ = f ∙ ap (λ (x : Compared). partOf x a b) e in
       let g′ = g ∙ ap toldOf e in
       ((f′, g′), rw (f′, g′) compare-right)
+
+  -- .. and its part has the length that is told
+  pub numbered : (c : Compared) → c ≡ comparedOf w s a b → Promise w s a b (partOf c a b) (toldOf c)
+  numbered c e = answered c e refl refl .1

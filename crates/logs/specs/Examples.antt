@@ -16,8 +16,8 @@ pub record Example : Type 0 where
   pub first-run : ℕ
   pub second-run : ℕ
 
--- not single: at the root in state 0 it stays into state 1, or goes down on either side; a leaf sends it back up in state 1. It starts in state 0
--- or 2, and is final in state 1
+-- not single: at the root in state 0 it stays, into state 1, or goes into the left part; in state 1 it goes into the right part; a leaf sends it back
+-- up in state 1. It starts in state 0 or 2, and is final in state 1
 abbrev rules : List Five
 rules = five 2 0 0 0 1 ∷ five 2 0 0 2 0 ∷ five 2 1 0 3 0 ∷ five 0 0 1 1 1 ∷ five 1 0 2 1 1 ∷ []
 

@@ -20,7 +20,6 @@ ghost use Rattle.automaton.specs.File.{WithinLimits};
 ghost use Rattle.overloops.specs.Ready.{Headed};
 ghost use Rattle.watch.specs.Following.{Held};
 ghost use Rattle.logs.specs.Checks.{logsCheck};
-ghost use Rattle.logs.specs.Prefix.{entriesOf, runPrefix};
 ghost use Rattle.logs.specs.Compare.{comparedTree, comparedBy, comparedOf, partOf, toldOf};
 ghost use Rattle.logs.specs.Promise.{Promise};
 
@@ -44,7 +43,13 @@ fn logs_check(first: &[u8], second: &[u8]) -> Check
 }
 
 // The counts of both logs, on the tree of a node list.
-fn count_nodes(header: Header, table: &TransitionTable, nodes: &[u8], first: &[u8], second: &[u8]) -> Compared
+fn count_nodes(
+    header: Header,
+    table: &TransitionTable,
+    nodes: &[u8],
+    first: &[u8],
+    second: &[u8],
+) -> Compared
     requires { ⌜ Held header (now table) (now nodes) ⌝ }
     ensures { λ r. ⌜ ((w : Held header (now (table .entry)) (now (nodes .entry)))
         → r ≡ comparedTree (w .automaton) (w .tree) (now (first .entry)) (now (second .entry))) ⌝ }
@@ -62,7 +67,13 @@ fn count_nodes(header: Header, table: &TransitionTable, nodes: &[u8], first: &[u
 }
 
 // The same on a tree's file.
-fn count_file(header: Header, table: &TransitionTable, file: &[u8], first: &[u8], second: &[u8]) -> Compared
+fn count_file(
+    header: Header,
+    table: &TransitionTable,
+    file: &[u8],
+    first: &[u8],
+    second: &[u8],
+) -> Compared
     requires { ⌜ WithinLimits header × ((A : Automaton) × Headed A header (now table)) ⌝ }
     ensures { λ r. ⌜ ((A : Automaton) → Headed A header (now (table .entry))
         → r ≡ comparedBy A (now (file .entry)) (now (first .entry)) (now (second .entry))) ⌝ }

@@ -138,7 +138,12 @@ pub fn put_watched(answer: Watched, told: &mut [usize; 3]) -> u32
 }
 
 // 0 compared, with the length of the part and the two counts; 1 refused, with none.
-pub fn put_compared(compared: Compared, part: usize, counts: &mut [usize; 3], told: &mut [usize; 3]) -> u32
+pub fn put_compared(
+    compared: Compared,
+    part: usize,
+    counts: &mut [usize; 3],
+    told: &mut [usize; 3],
+) -> u32
     ensures { λ r. ⌜ (r ≡ comparedNumber compared) × (now (counts .exit) ≡ comparedCounts compared part) × (now (told .exit) ≡ comparedTold compared) ⌝ }
 {
     match compared {

@@ -16,7 +16,7 @@ use Rattle.model.specs.declared.Move.{Move}
 use Rattle.model.specs.declared.Move.the-variants.{Stay, Up, Down}
 use Rattle.model.specs.Trees.{Tree, symbol, size}
 use Rattle.model.specs.Runs.{Position, place}
-use Rattle.algorithms.specs.Automaton.{Automaton, In, Δ}
+use Rattle.algorithms.specs.Automaton.{Automaton}
 use Rattle.refusal.proofs.Passed.{clash, and-is-true}
 use Rattle.transitions.specs.Compiled.{Next, nextIn, Compiled}
 use Rattle.links.specs.Numbers.{Numbered}

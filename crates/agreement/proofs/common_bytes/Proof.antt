@@ -2,7 +2,6 @@
 -- Assumes nothing.
 use borrow.Author.Needs.{needs}
 use Prim.Native.Nat.{_-_}
-use native.Mathlib.Omega.{arith}
 use Rattle.agreement.proofs.Agreeing.{Searched, searched-begins, searched-differs, searched-on, searched-all}
 use Rattle.agreement.proofs.common_bytes.Statement.{statement}
 use Rattle.agreement.proofs.common_bytes.Tie as tie
