@@ -6,42 +6,35 @@ use mathlib.Core.Path.{_≡_, refl, sym, ap, ap₂, _∙_, subst}
 use mathlib.Core.List.{List, [], _∷_}
 use lib.ListN.{length, take}
 use lib.Seq.{length-take-le, take-length}
-use borrow.Author.Tests.{eq-eqb}
+use Rattle.relation.specs.Lowest.{lowestOf}
 use Rattle.model.specs.declared.Place.the-variants.{Root}
 use Rattle.model.specs.Trees.{Tree}
 use Rattle.model.specs.Runs.{Config, Run}
 use Rattle.algorithms.specs.Automaton.{Automaton, Δ}
 use Rattle.blocks.specs.Blocks.{content}
-use Rattle.refusal.specs.declared.Check.the-variants.{Passed}
-use Rattle.refusal.specs.declared.Refusal.{Refusal}
-use Rattle.automaton.specs.File.{parsed}
-use Rattle.automaton.specs.declared.Header.{Header}
-use Rattle.automaton.specs.declared.file.Parsed.{Parsed}
 use Rattle.transitions.specs.Transitions.{automatonOf}
 use Rattle.nodes.specs.Nodes.{treeOf}
-use Rattle.tree.specs.File.{nodesOf, readTree}
-use Rattle.tree.specs.declared.file.ParsedTree.{ParsedTree}
+use Rattle.tree.specs.File.{nodesOf}
 use Rattle.tree.proofs.Reading.{tree-read}
 use Rattle.membership.specs.Judged.{signatureOf}
 use Rattle.watch.specs.Walk.{Entry, bytesOf}
-use Rattle.watch.specs.Watch.{Outcome, watchBy, watchOf}
+use Rattle.watch.specs.Watch.{Outcome, watchOf}
 use Rattle.watch.specs.Promise.{stepsOf, Logged, stands as logged-end, steps as logged-step, Watches}
-use Rattle.watch.specs.declared.Watched.{Watched}
 use Rattle.watch.proofs.Logs.{bytes-length}
 use Rattle.watch.proofs.Watching.{log-front}
-use Rattle.watch.proofs.Telling.{both-refused, both-read}
 use Rattle.watch.proofs.Right.{watch-right}
 use Rattle.agreement.specs.Common.{commonEntries, commonPart}
 use Rattle.agreement.specs.Longest.{Agrees}
 use Rattle.agreement.proofs.Agreeing.{common-longest}
 use Rattle.logs.specs.Prefix.{entriesOf, runPrefix}
-use Rattle.logs.specs.Checks.{logsCheck}
 use Rattle.logs.specs.Compare.{comparedOf}
 use Rattle.logs.specs.Promise.{Traced, stands, steps, Lawful}
 use Rattle.logs.specs.declared.Compared.{Compared}
 use Rattle.logs.proofs.Entries.{entries-back}
+use Rattle.logs.proofs.Watched.{logOf, Unrefused, both-were-read, file-log}
+use Rattle.logs.proofs.Budgets.{smaller-opens, opens-part}
 use Rattle.logs.proofs.Runs.{traced-run, prefix-counts}
-use Rattle.logs.proofs.Telling.{tree-counted}
+use Rattle.logs.proofs.Telling.{both-whole, tree-counted}
 use Rattle.logs.proofs.Right.{nodes-read}
 
 -- ---- the part
@@ -65,21 +58,6 @@ part-stretch a b =
     }
 
 -- ---- the counts
-
--- the log of a watch: the steps are in the answer
-abbrev pub logOf : Outcome → List ℕ
-logOf o = take (3 * (stepsOf (o .answer) + 1)) (o .log)
-
--- no refusal 23
-both-whole : (a b : List ℕ) → length a % 3 ≡ 0 → length b % 3 ≡ 0 → logsCheck a b ≡ Passed
-unfolding logsCheck
-both-whole a b e f = rw (eq-eqb _ 0 e, eq-eqb _ 0 f)
-
--- a refused tree is told by a watch
-tree-refusal : (w s : List ℕ) (budget : ℕ) (before : List ℕ) (h : Header) → parsed w ≡ Parsed.Read h → (r : Refusal)
-    → readTree (signatureOf (automatonOf h (content w))) s ≡ ParsedTree.Refused r → watchOf w s budget before .answer ≡ Watched.Refused r
-unfolding watchBy
-tree-refusal w s budget before h read r letter = ap (λ (x : Outcome). x .answer) (both-read w s budget before h read) ∙ rw letter
 
 module _ (A : Automaton) (t : Tree) where
   -- "a lawful walk" is a run of the model from the root in a start state
@@ -121,30 +99,32 @@ module _ (w s : List ℕ) (budget : ℕ) (before b : List ℕ) (three : length b
   abbrev o : Outcome
   o = watchOf w s budget before
 
-  abbrev Answered : Type 0
-  Answered = (n : ℕ) × (comparedOf w s (logOf o) b ≡ Compared.Counted (stepsOf (o .answer) + 1) n)
-
-  answered : (h : Header) (k : ℕ) → parsed w ≡ Parsed.Read h → readTree (signatureOf (automatonOf h (content w))) s ≡ ParsedTree.Nodes k
-      → ((r : Refusal) → ¬ (o .answer ≡ Watched.Refused r)) → Answered
-  answered h k read letter free =
-      let A = automatonOf h (content w) in
-      let t = treeOf (A .branches) (nodesOf k (content s)) in
-      let x = watch-right w s budget before .watches h k t read letter (tree-read (signatureOf A) s k letter .tree) free in
+  pub watched-counted : Unrefused o → (n : ℕ) × (comparedOf w s (logOf o) b ≡ Compared.Counted (stepsOf (o .answer) + 1) n)
+  watched-counted free =
+      let f = both-were-read w s budget before free in
+      let A = automatonOf (f .header) (content w) in
+      let t = treeOf (A .branches) (nodesOf (f .nodes) (content s)) in
+      let writes = tree-read (signatureOf A) s (f .nodes) (f .tree-read-is) .tree in
+      let x = watch-right w s budget before .watches (f .header) (f .nodes) t (f .automaton-read) (f .tree-read-is) writes free in
       let log = watched-log A t budget before o x in
       let back : entriesOf (logOf o) ≡ x .entries = ap entriesOf log ∙ entries-back (x .entries) in
       let all : stepsOf (o .answer) + 1 ≡ runPrefix A t (entriesOf (logOf o)) =
       sym (ap (runPrefix A t) back ∙ lawful-counted A t (x .entries) (watched-lawful A t budget before o x) ∙ x .made) in
       let whole : length (logOf o) % 3 ≡ 0 = omega (arith, ap length log, bytes-length (x .entries)) in
       (runPrefix A t (entriesOf b),
-      nodes-read w s (logOf o) b h read k letter ∙ sym (tree-counted A t (logOf o) b (both-whole (logOf o) b whole three) _ _ all refl))
+      nodes-read w s (logOf o) b (f .header) (f .automaton-read) (f .nodes) (f .tree-read-is)
+      ∙ sym (tree-counted A t (logOf o) b (both-whole (logOf o) b whole three) _ _ all refl))
 
-  pub watched-counted : ((r : Refusal) → ¬ (o .answer ≡ Watched.Refused r)) → Answered
-  watched-counted free = by-file (parsed w) refl
-    where
-      by-tree : (h : Header) → parsed w ≡ Parsed.Read h → (x : ParsedTree) → readTree (signatureOf (automatonOf h (content w))) s ≡ x → Answered
-      by-tree h read (ParsedTree.Nodes k) letter = answered h k read letter free
-      by-tree h read (ParsedTree.Refused r) letter = absurd (free r (tree-refusal w s budget before h read r letter))
+-- ---- "Both panels of a line now log the walk of W7": two such logs part nowhere, and the part is the whole log of the smaller budget
 
-      by-file : (x : Parsed) → parsed w ≡ x → Answered
-      by-file (Parsed.Read h) read = by-tree h read (readTree (signatureOf (automatonOf h (content w))) s) refl
-      by-file (Parsed.Refused r) read = absurd (free r (ap (λ (x : Outcome). x .answer) (sym (both-refused w s budget before r read))))
+pub panels-agree : (w s : List ℕ) (less more : ℕ) (before before′ : List ℕ) → less ≤ more
+    → Unrefused (watchOf w s less before) → Unrefused (watchOf w s more before′)
+    → commonPart (logOf (watchOf w s less before)) (logOf (watchOf w s more before′)) ≡ logOf (watchOf w s less before)
+panels-agree w s less more before before′ l free free′ =
+    let f = both-were-read w s less before free in
+    let A = automatonOf (f .header) (content w) in
+    let t = treeOf (A .branches) (nodesOf (f .nodes) (content s)) in
+    let start = lowestOf (A .initial) in
+    let one = file-log w s less before (f .header) (f .nodes) (f .automaton-read) (f .tree-read-is) free in
+    let two = file-log w s more before′ (f .header) (f .nodes) (f .automaton-read) (f .tree-read-is) free′ in
+    ap₂ commonPart one two ∙ opens-part _ _ (smaller-opens A t less more 0 0 start l) ∙ sym one

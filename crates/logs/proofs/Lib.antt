@@ -3,5 +3,7 @@ pub mod Counting
 pub mod Telling
 pub mod Runs
 pub mod Right
+pub mod Watched
+pub mod Budgets
 pub mod Comparing
 pub mod Examples

@@ -4,7 +4,6 @@ use Prim.Native.Nat.{ℕ, _%_}
 use mathlib.Core.Path.{_≡_, refl, sym, ap, _∙_, subst}
 use mathlib.Core.List.{List, []}
 use lib.ListN.{length}
-use borrow.Author.Tests.{eq-eqb}
 use Rattle.model.specs.Trees.{Tree}
 use Rattle.algorithms.specs.Automaton.{Automaton}
 use Rattle.blocks.specs.Blocks.{content}
@@ -31,7 +30,7 @@ use Rattle.logs.specs.Compare.{countIf, comparedTree, comparedBy, compar
 use Rattle.logs.specs.Promise.{Counts, Promise}
 use Rattle.logs.specs.declared.Compared.{Compared}
 use Rattle.logs.proofs.Runs.{prefix-counts}
-use Rattle.logs.proofs.Telling.{both-read}
+use Rattle.logs.proofs.Telling.{both-whole, both-read}
 
 module _ (A : Automaton) (t : Tree) (a b : List ℕ) where
   tree-counts : (m n : ℕ) → comparedTree A t a b ≡ Compared.Counted m n → Counts A t (entriesOf a) m × Counts A t (entriesOf b) n
@@ -47,8 +46,8 @@ module _ (A : Automaton) (t : Tree) (a b : List ℕ) where
           (subst (Counts A t (entriesOf a)) one (prefix-counts A t (entriesOf a)), subst (Counts A t (entriesOf b)) two (prefix-counts A t (entriesOf b)))
 
   tree-counted : length a % 3 ≡ 0 → length b % 3 ≡ 0 → (m : ℕ) × (n : ℕ) × (comparedTree A t a b ≡ Compared.Counted m n)
-  unfolding comparedTree logsCheck
-  tree-counted e f = (runPrefix A t (entriesOf a), runPrefix A t (entriesOf b), rw (eq-eqb _ 0 e, eq-eqb _ 0 f))
+  unfolding comparedTree
+  tree-counted e f = (runPrefix A t (entriesOf a), runPrefix A t (entriesOf b), rw (both-whole a b e f))
 
 module _ (w s a b : List ℕ) where
   refused-part : (c : Compared) (r : Refusal) → c ≡ Compared.Refused r → partOf c a b ≡ []

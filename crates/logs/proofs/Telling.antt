@@ -1,10 +1,11 @@
 -- The answer from the parts: of a node list, of a tree's file, of both files.
 -- Assumes nothing.
-use Prim.Native.Nat.{ℕ}
+use Prim.Native.Nat.{ℕ, _%_}
 use native.Mathlib.Omega.{arith}
 use mathlib.Core.Path.{_≡_, sym, ap, ap₂, _∙_}
 use mathlib.Core.List.{List, _++_}
-use lib.ListN.{drop}
+use lib.ListN.{length, drop}
+use borrow.Author.Tests.{eq-eqb}
 use Rattle.model.specs.Trees.{Tree, size}
 use Rattle.algorithms.specs.Automaton.{Automaton}
 use Rattle.blocks.specs.Blocks.{content}
@@ -48,6 +49,11 @@ countable {s = s} held P R before before′ links =
           let below = below-at (held .automaton .symbols) s (symbols-below held) i (omega (arith, nodes-long held)) in
           omega (arith, below, held .headed .symbols, symbols-low held);
     }
+
+-- no refusal 23
+pub both-whole : (a b : List ℕ) → length a % 3 ≡ 0 → length b % 3 ≡ 0 → logsCheck a b ≡ Passed
+unfolding logsCheck
+both-whole a b e f = rw (eq-eqb _ 0 e, eq-eqb _ 0 f)
 
 module _ (A : Automaton) (t : Tree) (a b : List ℕ) where
   pub tree-refused : (r : Refusal) → logsCheck a b ≡ Refused r → Compared.Refused r ≡ comparedTree A t a b

@@ -114,7 +114,7 @@ module _ (w s : List ℕ) (budget : ℕ) (before : List ℕ) where
     single-is : Deterministic (Δ A) → determined A ≡ true
     single-is d = sym (single-determined h (content w) (file-limits w h read .0)) ∙ single-deterministic h (content w) .1 d
 
-    nodes-read : (k : ℕ) → readTree (signatureOf A) s ≡ ParsedTree.Nodes k
+    pub nodes-read : (k : ℕ) → readTree (signatureOf A) s ≡ ParsedTree.Nodes k
         → watchOf w s budget before ≡ watchTree (determined A) A (treeOf (A .branches) (nodesOf k (content s))) budget before
     unfolding watchBy
     nodes-read k e = both-read w s budget before h read ∙ rw e
