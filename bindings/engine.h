@@ -5,12 +5,12 @@
  * encodings in crates/numbering/specs/Numbers.antt.
  *
  * Pointers. A pointer with a length points at so many bytes, or more; it is never null, also where the length is 0. A pointer to numbers
- * is aligned as its type is. What a function writes to (told, out, log, tally, text, a survey's plan) overlaps nothing else that it was
- * given; what it only reads may overlap. Nothing is kept after the call.
+ * is aligned as its type is. What a function writes to (told, out, log, counts, tally, text, a survey's plan) overlaps nothing else that it
+ * was given; what it only reads may overlap. Nothing is kept after the call.
  *
  * What is written. `told` is always written, all three numbers: what the answer tells, or, of a refusal, its number (1 to 14 of document
- * 01's table, 15 to 22 of document 02), the file (0 automaton, 1 tree, 2 neither), and the place that the table names; what an answer does
- * not tell is 0. `plan`, `out`, `log`, `tally` and `text` are changed only as said below, and no other memory is.
+ * 01's table, 15 to 23 of document 02), the file (0 automaton, 1 tree, 2 neither), and the place that the table names; what an answer does
+ * not tell is 0. `plan`, `out`, `log`, `counts`, `tally` and `text` are changed only as said below, and no other memory is.
  *
  * Threads. Calls share nothing: there is no state between them, no allocation, no lock, no file and no signal. Any number of threads may
  * call at one time, each with memory of its own to be written to.
@@ -31,6 +31,7 @@
 #define ENGINE_CANONICAL_STACK (56 * 1024)
 #define ENGINE_MARKUP_STACK (36 * 1024)
 #define ENGINE_WATCH_STACK (76 * 1024)
+#define ENGINE_COMPARE_STACK (72 * 1024)
 #define ENGINE_COUNT_STACK (4 * 1024)
 #define ENGINE_PERCENT_STACK (4 * 1024)
 #define ENGINE_TALLY_STACK (80 * 1024)
@@ -96,6 +97,16 @@ uint32_t engine_markup(const uint8_t *file, size_t length, const uint8_t *text, 
  * one start state (the number there are), 22, a budget over 20,000 (20,000), and 13, the log is shorter than 3 x (budget + 1) (that length). */
 uint32_t engine_watch(const uint8_t *automaton, size_t automaton_length, const uint8_t *tree, size_t tree_length, size_t budget,
                       uint8_t *log, size_t log_length, size_t told[3]);
+
+/* Holds two logs of an automaton on a tree together, of the form that engine_watch writes and of any length; the automaton need not be single.
+ * `counts` is always written, all three numbers: the length in bytes of the part, which is the longest opening stretch of whole entries in which
+ * the two logs agree, byte for byte, and so the front of the first log itself; how many entries from the start of the first log are a lawful
+ * walk, the root in a start state and then each entry reached from the one before by a rule; and how many of the second. An entry whose node or
+ * state does not exist is none of these. The logs may be one and the same.
+ * 0 compared, 1 refused (number, file, place), with counts 0, 0 and 0: after the automaton's refusals and the tree's 23, a log's length is no
+ * multiple of three (0 the first log, which is looked at first, 1 the second). */
+uint32_t engine_compare(const uint8_t *automaton, size_t automaton_length, const uint8_t *tree, size_t tree_length, const uint8_t *first,
+                        size_t first_length, const uint8_t *second, size_t second_length, size_t counts[3], size_t told[3]);
 
 /* Counts one outcome more on a tally of three numbers: accepted, other, refused. The outcome is what engine_judge answered: 0 accepted,
  * 1 other, any other number refused. A tally whose numbers add to 1,000,000 or more stays as it was.

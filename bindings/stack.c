@@ -144,10 +144,21 @@ static size_t write_letter(uint8_t *file, int letter)
     return write_file(file, nodes, 4 + count);
 }
 
+/* A walker and a letter; and the walker that goes round, with the log of its walk on the letter. */
 static struct {
-    uint8_t walker[WALKER], letter[LETTER];
-    size_t walker_length, letter_length;
+    uint8_t walker[WALKER], letter[LETTER], round[WALKER], log[LOG];
+    size_t walker_length, letter_length, round_length, log_length;
 } input;
+
+static size_t told[3], counts[3];
+static uint32_t tally[3], answer;
+
+static void make_log(void)
+{
+    input.round_length = write_round(input.round, 1);
+    uint32_t end = engine_watch(input.round, input.round_length, input.letter, input.letter_length, BUDGET, input.log, LOG, told);
+    input.log_length = end < 4 ? 3 * (told[0] + 1) : 0;
+}
 
 /* Each pair of a walker (none, the one, it with the start state final, and the one with place 3) and a letter (none, then combs: left,
  * right, and both large; and the full tree). */
@@ -163,12 +174,10 @@ static void make_input(int number)
     else
         input.walker_length = write_walker(input.walker, walker == PASSING ? 1u << 16 : 1u << 23);
     input.letter_length = letter == NONE ? 0 : write_letter(input.letter, letter);
+    make_log();
 }
 
 /* ---- calls */
-
-static size_t told[3];
-static uint32_t tally[3], answer;
 
 static void call_judge(void)
 {
@@ -244,13 +253,27 @@ static uint32_t watch(const uint8_t *walker, size_t walker_length, size_t budget
 /* The walk of the walker, and of the one that goes round, with the largest budget; and refusals 20, 22 and 13. */
 static void call_watch(void)
 {
-    static uint8_t round[WALKER], second[WALKER];
-    size_t length = write_round(round, 1);
+    static uint8_t second[WALKER];
     watch(input.walker, input.walker_length, BUDGET, LOG);
     watch(second, write_round(second, 0), BUDGET, LOG);
-    watch(round, length, BUDGET + 1, LOG);
-    watch(round, length, BUDGET, LOG - 1);
-    answer = watch(round, length, BUDGET, LOG);
+    watch(input.round, input.round_length, BUDGET + 1, LOG);
+    watch(input.round, input.round_length, BUDGET, LOG - 1);
+    answer = watch(input.round, input.round_length, BUDGET, LOG);
+}
+
+static uint32_t compare(const uint8_t *walker, size_t walker_length, size_t first_length, size_t second_length)
+{
+    return engine_compare(walker, walker_length, input.letter, input.letter_length, input.log, first_length, input.log, second_length,
+                          counts, told);
+}
+
+/* The log beside itself, by the walker, and by the one that made it; and refusal 23 of either log. */
+static void call_compare(void)
+{
+    compare(input.walker, input.walker_length, input.log_length, input.log_length);
+    compare(input.round, input.round_length, LOG - 1, LOG);
+    compare(input.round, input.round_length, LOG, LOG - 1);
+    answer = compare(input.round, input.round_length, input.log_length, input.log_length);
 }
 
 static void call_count(void)
@@ -283,8 +306,9 @@ static const struct {
     {"engine_witness", call_witness, ENGINE_WITNESS_STACK}, {"engine_quick", call_quick, ENGINE_QUICK_STACK},
     {"engine_single", call_single, ENGINE_SINGLE_STACK},    {"engine_canonical", call_canonical, ENGINE_CANONICAL_STACK},
     {"engine_markup", call_markup, ENGINE_MARKUP_STACK},    {"engine_watch", call_watch, ENGINE_WATCH_STACK},
-    {"engine_count", call_count, ENGINE_COUNT_STACK},       {"engine_percent", call_percent, ENGINE_PERCENT_STACK},
-    {"engine_tally", call_tally, ENGINE_TALLY_STACK},       {"engine_report", call_report, ENGINE_REPORT_STACK},
+    {"engine_compare", call_compare, ENGINE_COMPARE_STACK}, {"engine_count", call_count, ENGINE_COUNT_STACK},
+    {"engine_percent", call_percent, ENGINE_PERCENT_STACK}, {"engine_tally", call_tally, ENGINE_TALLY_STACK},
+    {"engine_report", call_report, ENGINE_REPORT_STACK},
 };
 
 /* ---- measuring */
@@ -338,8 +362,17 @@ static int watch_right(int letter)
     return letter < LARGE_LEFT ? answer == 2 && told[0] == 129 * 24 : answer == 3 && told[0] == BUDGET;
 }
 
+/* Whether the logs are refused with the letter, and are otherwise a lawful walk to their end. */
+static int compare_right(int letter)
+{
+    if (letter == NONE)
+        return answer == 1 && told[0] == 1 && told[1] == 1 && counts[0] + counts[1] + counts[2] == 0;
+    size_t entries = letter < LARGE_LEFT ? 129 * 24 + 1 : BUDGET + 1;
+    return answer == 0 && counts[0] == 3 * entries && counts[1] == entries && counts[2] == entries;
+}
+
 /* That the inputs are what they should be: refused, not accepted and accepted; nine blocks; a survey that ends with Open 64; two plans that
- * are written; a form of six blocks, and one that 17 refuses; a text that is written; long walks. */
+ * are written; a form of six blocks, and one that 17 refuses; a text that is written; long walks and logs. */
 static int inputs_right(void)
 {
     for (int number = 0; number < INPUTS; number++) {
@@ -363,6 +396,9 @@ static int inputs_right(void)
             return 0;
         call_watch();
         if (!watch_right(letter))
+            return 0;
+        call_compare();
+        if (!compare_right(letter))
             return 0;
     }
     return 1;

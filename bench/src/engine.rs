@@ -1,5 +1,5 @@
 //! The engine, by bindings/rust, in the terms of this crate.
-use crate::{batch::Tally, survey::Survey, watch::Watched, Judge, Refusal, Verdict};
+use crate::{batch::Tally, compare::Compared, survey::Survey, watch::Watched, Judge, Refusal, Verdict};
 
 fn refusal(::engine::Refusal { number, place, .. }: ::engine::Refusal) -> Refusal {
     Refusal { number, place }
@@ -38,6 +38,12 @@ pub fn watch(file: &[u8], tree: &[u8], budget: usize, log: &mut [u8]) -> Result<
         ::engine::Watched::Circling { steps } => Watched::Circling(steps),
         ::engine::Watched::Spent { steps } => Watched::Spent(steps),
     })
+}
+
+/// Holds two logs of an automaton's file and a tree's file together.
+pub fn compare(file: &[u8], tree: &[u8], first: &[u8], second: &[u8]) -> Result<Compared, Refusal> {
+    let ::engine::Compared { part, first, second } = ::engine::compare(file, tree, first, second).map_err(refusal)?;
+    Ok(Compared { part: part.len(), first, second })
 }
 
 /// The engine's tally of trees' files end to end.

@@ -7,6 +7,9 @@ pub mod automaton;
 pub mod batch;
 pub mod blocks;
 pub mod canonical;
+pub mod compare;
+#[cfg(feature = "engine")]
+mod compares;
 pub mod configurations;
 #[cfg(feature = "engine")]
 mod engine;
@@ -14,6 +17,7 @@ pub mod families;
 #[cfg(feature = "engine")]
 mod forms;
 mod judges;
+pub mod logs;
 pub mod markup;
 mod measure;
 #[cfg(feature = "engine")]
@@ -104,5 +108,7 @@ pub fn run() -> Result<(), String> {
     texts::run()?;
     #[cfg(feature = "engine")]
     watches::run()?;
+    #[cfg(feature = "engine")]
+    compares::run()?;
     Ok(())
 }

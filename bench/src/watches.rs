@@ -44,7 +44,7 @@ fn rule(symbol: usize, state: usize, place: u8, step: u8, next: usize) -> Rule {
 
 /// Goes round the whole tree, depth first, again and again, and counts modulo 8 at the leaves. A state is a phase (arriving, back from the left
 /// part, back from the right part) and a count.
-fn round() -> Automaton {
+pub fn round() -> Automaton {
     const COUNTS: usize = 8;
     let state = |phase: usize, count: usize| phase * COUNTS + count % COUNTS;
     let mut rules = Vec::new();
@@ -63,14 +63,14 @@ fn round() -> Automaton {
 }
 
 /// Stays where it is, in one state after the other.
-fn staying() -> Automaton {
+pub fn staying() -> Automaton {
     let stay =
         |symbol| (0..MOST_STATES).map(move |state| rule(symbol, state, EVERY_PLACE, STAY, (state + 1) % MOST_STATES));
     with_rules((0..SYMBOLS).flat_map(stay).collect())
 }
 
 /// Goes down the left to the leaf and back up to the root, again and again.
-fn up_and_down() -> Automaton {
+pub fn up_and_down() -> Automaton {
     let mut rules = Vec::new();
     for symbol in 0..SYMBOLS {
         let (down, up) = (0, 1);
@@ -103,8 +103,13 @@ struct Case {
     budget: usize,
 }
 
+/// The symbols of a tree of 4,095 nodes.
+pub fn large_tree(automaton: &Automaton, shape: Shape, seed: u64) -> Vec<u8> {
+    shapes::tree(automaton, shape, BRANCHES, MOST_HEIGHT, &mut Random::new(seed))
+}
+
 fn tree_file(automaton: &Automaton, shape: Shape, seed: u64) -> Vec<u8> {
-    tree::write(&shapes::tree(automaton, shape, BRANCHES, MOST_HEIGHT, &mut Random::new(seed)))
+    tree::write(&large_tree(automaton, shape, seed))
 }
 
 /// The same tree in each call.

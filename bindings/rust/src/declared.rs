@@ -6,6 +6,9 @@ use crate::Tally;
 /// The three numbers told with an answer.
 pub type Told = [usize; 3];
 
+/// The length of a part, and two counts of entries.
+pub type Counts = [usize; 3];
+
 /// The most bytes that a report has.
 const REPORT: usize = 357;
 
@@ -47,6 +50,18 @@ extern "C" {
         budget: usize,
         log: *mut u8,
         log_length: usize,
+        told: *mut Told,
+    ) -> u32;
+    fn engine_compare(
+        automaton: *const u8,
+        automaton_length: usize,
+        tree: *const u8,
+        tree_length: usize,
+        first: *const u8,
+        first_length: usize,
+        second: *const u8,
+        second_length: usize,
+        counts: *mut Counts,
         told: *mut Told,
     ) -> u32;
     fn engine_count(tally: *mut [u32; 3], outcome: u32, told: *mut Told) -> u32;
@@ -120,6 +135,17 @@ pub fn watch(automaton: &[u8], tree: &[u8], budget: usize, log: &mut [u8]) -> (u
     telling(|told| unsafe {
         engine_watch(file, length, tree.as_ptr(), tree.len(), budget, log.as_mut_ptr(), log.len(), told)
     })
+}
+
+pub fn compare(automaton: &[u8], tree: &[u8], first: &[u8], second: &[u8]) -> (u32, Counts, Told) {
+    let mut counts = [0; 3];
+    let (file, length, tree, tree_length) = (automaton.as_ptr(), automaton.len(), tree.as_ptr(), tree.len());
+    let (one, one_length, other, other_length) = (first.as_ptr(), first.len(), second.as_ptr(), second.len());
+    // SAFETY: the pointers are of slices, with their lengths; `counts` and `told` are written to, and are the call's own.
+    let (number, told) = telling(|told| unsafe {
+        engine_compare(file, length, tree, tree_length, one, one_length, other, other_length, &mut counts, told)
+    });
+    (number, counts, told)
 }
 
 pub fn count(tally: &mut [u32; 3], outcome: u32) -> (u32, Told) {

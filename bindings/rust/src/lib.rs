@@ -1,5 +1,5 @@
 //! The engine for tree-walking automata, from its static library: judging, the survey and its plan's tree, the quick check, single, the one
-//! form of an automaton's file, element texts as trees' files, watching a run, the tally, and the report.
+//! form of an automaton's file, element texts as trees' files, watching a run, two logs held together, the tally, and the report.
 //! Files are given as their bytes; every input is answered, a bad file by its refusal. Calls share nothing, and may be made by any number
 //! of threads; `bindings/engine.h` says how much stack each takes.
 mod declared;
@@ -68,6 +68,15 @@ pub enum Watched {
     Stuck { steps: usize },
     Circling { steps: usize },
     Spent { steps: usize },
+}
+
+/// What two logs held together tell: the part in which they agree, which is the front of the first log itself, and how many entries from the start
+/// of each are a run: the root in a start state, then each reached from the one before by a rule.
+#[derive(Clone, Copy, Debug, PartialEq, Eq)]
+pub struct Compared<'a> {
+    pub part: &'a [u8],
+    pub first: usize,
+    pub second: usize,
 }
 
 /// What became of a tree, to be counted.
@@ -186,6 +195,15 @@ pub fn watch(automaton: &[u8], tree: &[u8], budget: usize, log: &mut [u8]) -> Re
         (2, [steps, ..]) => Ok(Watched::Circling { steps }),
         (3, [steps, ..]) => Ok(Watched::Spent { steps }),
         (_, told) => Err(Refusal::of(told)),
+    }
+}
+
+/// Holds two logs of an automaton on a tree together, by their files; the automaton need not be single. An entry is three bytes, as `watch` logs
+/// them. A log may have any number of entries, and the two may be one and the same.
+pub fn compare<'a>(automaton: &[u8], tree: &[u8], first: &'a [u8], second: &[u8]) -> Result<Compared<'a>, Refusal> {
+    match declared::compare(automaton, tree, first, second) {
+        (0, [length, one, other], _) => Ok(Compared { part: &first[..length], first: one, second: other }),
+        (_, _, told) => Err(Refusal::of(told)),
     }
 }
 
