@@ -155,12 +155,12 @@ pub extern "C" fn engine_compare(
 ) -> u32
     ensures equals { λ r. ⌜ (r ≡ comparedNumber (comparedOf (now (automaton .entry)) (now (tree .entry)) (now (first .entry)) (now (second .entry))))
         × (now (counts .exit) ≡ comparedCounts (comparedOf (now (automaton .entry)) (now (tree .entry)) (now (first .entry)) (now (second .entry)))
-            (length (commonPart (now (first .entry)) (now (second .entry)))))
+        (length (commonPart (now (first .entry)) (now (second .entry)))))
         × (now (told .exit) ≡ comparedTold (comparedOf (now (automaton .entry)) (now (tree .entry)) (now (first .entry)) (now (second .entry)))) ⌝ }
     ensures right { λ r. ⌜ ((a : Compared) × (r ≡ comparedNumber a) × (now (counts .exit) ≡ comparedCounts a (length (partOf a (now (first .entry)) (now (second .entry)))))
         × (now (told .exit) ≡ comparedTold a)
         × logs-spec.Promise (now (automaton .entry)) (now (tree .entry)) (now (first .entry)) (now (second .entry))
-            (partOf a (now (first .entry)) (now (second .entry))) (toldOf a)) ⌝ }
+        (partOf a (now (first .entry)) (now (second .entry))) (toldOf a)) ⌝ }
 {
     let compared = logs::count(automaton, tree, first, second);
     let part = agreement::common(first, second);

@@ -82,15 +82,23 @@ fn of_automaton(a: Automaton, records: &[u8], q: Question) -> Expected {
     }
 }
 
-// The first refusal that applies, or number 0.
-fn first_refusal(a: Automaton, records: &[u8], q: Question) -> Expected {
-    let automaton = q.automaton;
-    let tree = q.tree;
+// The first refusal of the two files, or number 0.
+pub fn of_files(automaton: Damaged, tree: Damaged) -> Expected {
     if automaton.number > 0 {
         return refused(automaton.number, 0, automaton.place);
     }
     if tree.number > 0 {
         refused(tree.number, 1, tree.place)
+    } else {
+        refused(0, 2, 0)
+    }
+}
+
+// The first refusal that applies, or number 0.
+fn first_refusal(a: Automaton, records: &[u8], q: Question) -> Expected {
+    let files = of_files(q.automaton, q.tree);
+    if files.number > 0 {
+        files
     } else {
         of_automaton(a, records, q)
     }

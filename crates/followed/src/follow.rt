@@ -26,9 +26,9 @@ pub struct Ending {
     pub steps: usize,
 }
 
-struct Position {
-    node: usize,
-    state: usize,
+pub struct Position {
+    pub node: usize,
+    pub state: usize,
 }
 
 // Nodes times states, by adding the nodes for each state.
@@ -79,7 +79,7 @@ fn ending_at(
 }
 
 // Three bytes: the node, low byte first, then the state.
-fn put(log: &mut [u8], steps: usize, p: Position) {
+pub fn put(log: &mut [u8], steps: usize, p: Position) {
     let at = steps % 32768 * 3;
     set_byte(log, at, p.node);
     set_byte(log, at + 1, p.node / 256);
@@ -95,7 +95,8 @@ fn target(nodes: &[usize], node: usize, step: usize) -> usize {
     }
 }
 
-fn moved(records: &[u8], record: usize, nodes: &[usize], p: Position) -> Position {
+// Where the step by a record leads.
+pub fn moved(records: &[u8], record: usize, nodes: &[usize], p: Position) -> Position {
     let step = rules::get(records, record, rules::MOVE);
     let state = rules::get(records, record, rules::NEXT);
     let node = target(nodes, p.node, step);

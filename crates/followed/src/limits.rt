@@ -18,7 +18,7 @@ pub fn needed(budget: usize) -> usize
 }
 
 // The number before, or 0.
-fn before(n: usize) -> usize {
+pub fn before(n: usize) -> usize {
     if n > 0 { n - 1 } else { 0 }
 }
 

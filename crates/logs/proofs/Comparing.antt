@@ -110,10 +110,11 @@ module _ (w s : List ℕ) (budget : ℕ) (before b : List ℕ) (three : length b
       let back : entriesOf (logOf o) ≡ x .entries = ap entriesOf log ∙ entries-back (x .entries) in
       let all : stepsOf (o .answer) + 1 ≡ runPrefix A t (entriesOf (logOf o)) =
       sym (ap (runPrefix A t) back ∙ lawful-counted A t (x .entries) (watched-lawful A t budget before o x) ∙ x .made) in
-      let whole : length (logOf o) % 3 ≡ 0 = omega (arith, ap length log, bytes-length (x .entries)) in
-      (runPrefix A t (entriesOf b),
-      nodes-read w s (logOf o) b (f .header) (f .automaton-read) (f .nodes) (f .tree-read-is)
-      ∙ sym (tree-counted A t (logOf o) b (both-whole (logOf o) b whole three) _ _ all refl))
+      let whole : length (logOf o) % 3 ≡ 0 = omega (arith, ap length log, bytes-length (x .entries)) in (
+        runPrefix A t (entriesOf b),
+        nodes-read w s (logOf o) b (f .header) (f .automaton-read) (f .nodes) (f .tree-read-is)
+            ∙ sym (tree-counted A t (logOf o) b (both-whole (logOf o) b whole three) _ _ all refl),
+      )
 
 -- ---- "Both panels of a line now log the walk of W7": two such logs part nowhere, and the part is the whole log of the smaller budget
 

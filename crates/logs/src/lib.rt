@@ -137,7 +137,7 @@ pub fn compare<'a, 'b>(
 ) -> &'a [u8]
     ensures itself { λ r. ⌜ r .ptr ≡ first .entry .ptr ⌝ }
     ensures equals { λ r. ⌜ (now r ≡ partOf (comparedOf (now (automaton .entry)) (now (tree .entry)) (now (first .entry)) (now (second .entry)))
-            (now (first .entry)) (now (second .entry)))
+        (now (first .entry)) (now (second .entry)))
         × (now (told .exit) ≡ toldOf (comparedOf (now (automaton .entry)) (now (tree .entry)) (now (first .entry)) (now (second .entry)))) ⌝ }
     ensures right { λ r. ⌜ Promise (now (automaton .entry)) (now (tree .entry)) (now (first .entry)) (now (second .entry)) (now r) (now (told .exit)) ⌝ }
 {

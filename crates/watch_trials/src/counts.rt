@@ -75,7 +75,7 @@ pub fn print_endings(counts: &[usize]) {
 }
 
 // A line with the refusals of a file, from number 1 to 12.
-fn refusals(label: &[u8], counts: &[usize], file: usize) {
+pub fn refusals(label: &[u8], counts: &[usize], file: usize) {
     text(label);
     for i in 1..13usize {
         labelled(b" ", number(counts, refusal_at(file, i)));

@@ -52,7 +52,7 @@ enum-known-k : tie.Need-enum-known-k
 enum-known-k c = search needs
 
 array-share-prefix-nodes : tie.Need-array-share-prefix-nodes
-array-share-prefix-nodes c = 
+array-share-prefix-nodes c =
     let e = ap length (nodes-are c) ∙ read c .size in
     omega (arith, length-take (k c) (c .before .before .before .read-tree .last .1 .1 .0), e)
 
@@ -60,7 +60,7 @@ slice-aggregate-count-nodes : tie.Need-slice-aggregate-count-nodes
 slice-aggregate-count-nodes c = rw (nodes-are (c .before)) (sym (read (c .before) .size))
 
 count-nodes-requires : tie.Need-count-nodes-requires
-count-nodes-requires c κs = 
+count-nodes-requires c κs =
     let told = c .before in
     let pre = c .before .before .before .before .before .before .before .before .before .pre in
     rw (nodes-are told) (held _ _ _ (pre .1 .1) (s told) (k told) (pre .0) (read told))

@@ -10,7 +10,7 @@ use Rattle.logs.proofs.prefix.run_prefix.Statement.{statement}
 use Rattle.logs.proofs.prefix.run_prefix.Tie as tie
 
 abbrev Inv-loop : tie.InvT-loop
-Inv-loop nodes table parents rights initial log n last₀ k₀ last k = 
+Inv-loop nodes table parents rights initial log n last₀ k₀ last k =
     (w : Countable initial nodes table parents rights) → Counted (w .automaton) (w .tree) log n k (numbered last)
 
 abbrev μ-loop : tie.MeasureT-loop
