@@ -11,7 +11,7 @@ use sampling::access::has;
 use sampling::rules::Automaton;
 use search::files;
 use watch_trials::counts::count_if;
-use watch_trials::logs::same_bytes;
+use watch_trials::lent::same_bytes;
 
 // Stands in all five numbers before, so that each has to be written.
 const BEFORE: usize = 77777;

@@ -3,7 +3,7 @@ use followed::answer;
 use followed::answer::Expected;
 use followed::follow;
 use watch::Watched;
-use watch_trials::logs::lower;
+use watch_trials::lent::lower;
 
 pub fn same(a: Expected, b: Expected) -> bool {
     a.kind == b.kind

@@ -9,7 +9,7 @@ use sampling::rules::Automaton;
 use watch_trials::counts;
 use watch_trials::counts::DIFFERENCES;
 use watch_trials::counts::count_if;
-use watch_trials::logs;
+use watch_trials::lent;
 
 // The pairs of each family.
 pub const PAIRS: usize = 2000;
@@ -27,12 +27,12 @@ pub fn compare_answers(
     tree: &[u8],
 ) -> Expected {
     let mut log = [0u8; limits::ROOM];
-    let n = logs::end(q.room);
-    logs::fill(&mut log, n, k);
+    let n = lent::end(q.room);
+    lent::fill(&mut log, n, k);
     let mut right = log;
     let expected = answer::expected_of(a, records, nodes, size, q, &mut right);
     let found = engine::answer(automaton, tree, q.budget, &mut log, q.room);
-    let same = engine::same(found, expected) && logs::same_bytes(&log, &right, n);
+    let same = engine::same(found, expected) && lent::same_bytes(&log, &right, n);
     counts::count_answer(counts, k / PAIRS, expected);
     count_if(counts, DIFFERENCES, !same);
     found

@@ -1,11 +1,11 @@
--- `watch_trials::logs::fill` ends, after the last byte, and stays within the log.
+-- `watch_trials::lent::fill` ends, after the last byte, and stays within the log.
 -- Assumes nothing.
 use borrow.Author.Needs.{needs}
 use Prim.Native.Nat.{_-_, _≤_}
 use mathlib.Core.Path.{_≡_}
 use lib.ListN.{length}
-use Rattle.watch_trials.proofs.logs.fill.Statement.{statement}
-use Rattle.watch_trials.proofs.logs.fill.Tie as tie
+use Rattle.watch_trials.proofs.lent.fill.Statement.{statement}
+use Rattle.watch_trials.proofs.lent.fill.Tie as tie
 
 abbrev Inv-loop : tie.InvT-loop
 Inv-loop log₀ n salt i₀ i-end log i = (i ≤ i-end) × (i-end ≤ length log₀) × (length log ≡ length log₀)

@@ -1,10 +1,10 @@
--- `watch_trials::logs::same_bytes` ends, at the last byte at the latest, and stays within both logs.
+-- `watch_trials::lent::same_bytes` ends, at the last byte at the latest, and stays within both logs.
 -- Assumes nothing.
 use borrow.Author.Needs.{needs}
 use Prim.Native.Nat.{_-_, _≤_}
 use lib.ListN.{length}
-use Rattle.watch_trials.proofs.logs.same_bytes.Statement.{statement}
-use Rattle.watch_trials.proofs.logs.same_bytes.Tie as tie
+use Rattle.watch_trials.proofs.lent.same_bytes.Statement.{statement}
+use Rattle.watch_trials.proofs.lent.same_bytes.Tie as tie
 
 abbrev Inv-loop : tie.InvT-loop
 Inv-loop a b n i₀ i-end i = (i ≤ i-end) × (i-end ≤ length a) × (i-end ≤ length b)
