@@ -2,6 +2,7 @@ pub mod Entries
 pub mod Counting
 pub mod Telling
 pub mod Runs
+pub mod Refusing
 pub mod Right
 pub mod Watched
 pub mod Budgets

@@ -31,6 +31,7 @@ use Rattle.logs.specs.Promise.{Counts, Promise}
 use Rattle.logs.specs.declared.Compared.{Compared}
 use Rattle.logs.proofs.Runs.{prefix-counts}
 use Rattle.logs.proofs.Telling.{both-whole, both-read}
+use Rattle.logs.proofs.Refusing.{compared-numbered}
 
 module _ (A : Automaton) (t : Tree) (a b : List ℕ) where
   tree-counts : (m n : ℕ) → comparedTree A t a b ≡ Compared.Counted m n → Counts A t (entriesOf a) m × Counts A t (entriesOf b) n
@@ -75,6 +76,7 @@ module _ (w s a b : List ℕ) where
       record {
         answer = comparedOf w s a b;
         told-is = refl;
+        numbered = compared-numbered w s a b;
         refused = refused-part (comparedOf w s a b);
         agreeing = λ m n e. (commonEntries a b, counted-part (comparedOf w s a b) m n e, common-longest a b);
         counts = λ h k t read letter writes m n e. tree-counts (automatonOf h (content w)) t a b m n (sym (tree-is h read k letter t writes) ∙ e);

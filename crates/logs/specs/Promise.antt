@@ -50,6 +50,8 @@ pub record Promise (w s a b part told : List ℕ) : Type 0 where
   -- the numbers are those of a refusal or of two counts
   pub answer : Compared
   pub told-is : told ≡ toldOf answer
+  -- which of the two the first number tells: no refusal has the number 0
+  pub numbered : (r : Refusal) → answer ≡ Compared.Refused r → 0 < r .number
   -- "A refusal comes with an empty part and both numbers 0" (`toldOf` has the numbers) ..
   pub refused : (r : Refusal) → answer ≡ Compared.Refused r → part ≡ []
   -- .. and anything else with "the longest opening stretch of whole entries in which the two agree, as that part of the first log itself"
