@@ -93,6 +93,6 @@ module _ (w s a b : List ℕ) where
       let g′ = g ∙ ap toldOf e in
       ((f′, g′), rw (f′, g′) compare-right)
 
-  -- .. and its part has the length that is told
-  pub numbered : (c : Compared) → c ≡ comparedOf w s a b → Promise w s a b (partOf c a b) (toldOf c)
-  numbered c e = answered c e refl refl .1
+  -- .. also where it is an answer by value
+  pub answer-right : (c : Compared) → c ≡ comparedOf w s a b → Promise w s a b (partOf c a b) (toldOf c)
+  answer-right c e = answered c e refl refl .1

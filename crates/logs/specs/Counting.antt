@@ -1,5 +1,5 @@
 -- For the code: what the lent tables hold of an automaton and a tree.
--- Interface: `entryAt`, `numbered`, `Countable`.
+-- Interface: `entryAt`, `entryOf`, `Countable`.
 use Prim.Native.Nat.{ℕ, _+_, _*_, _<_}
 use mathlib.Core.Path.{_≡_}
 use mathlib.Core.List.{List}
@@ -17,8 +17,8 @@ abbrev pub entryAt : List ℕ → (k : ℕ) → Entry
 entryAt s k = entry (getD s (3 * k) 0) (getD s (3 * k + 1) 0) (getD s (3 * k + 2) 0)
 
 -- a configuration as an entry
-abbrev pub numbered : Configuration → Entry
-numbered c = (c .node, c .state .0)
+abbrev pub entryOf : Configuration → Entry
+entryOf c = (c .node, c .state .0)
 
 -- of an automaton its transitions and start states; of a tree its nodes and their links
 pub record Countable (initial : ℕ) (s table P R : List ℕ) : Type 0 where

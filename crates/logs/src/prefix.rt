@@ -7,12 +7,12 @@ ghost use mathlib.Core.Path.{_≡_};
 ghost use Prim.Native.Nat.{_+_, _*_, _≤_};
 ghost use lib.ListN.{length};
 ghost use Rattle.logs.specs.Prefix.{entriesOf, begins, runPrefix};
-ghost use Rattle.logs.specs.Counting.{entryAt, numbered, Countable};
+ghost use Rattle.logs.specs.Counting.{entryAt, entryOf, Countable};
 
 // Entry k of a log: the node, low byte first, then the state.
 fn entry_at(log: &[u8], k: usize) -> Configuration
     requires { ⌜ 3 * k + 3 ≤ length (now log) ⌝ }
-    ensures { λ r. ⌜ numbered r ≡ entryAt (now (log .entry)) k ⌝ }
+    ensures { λ r. ⌜ entryOf r ≡ entryAt (now (log .entry)) k ⌝ }
 {
     let at = 3 * k;
     let low = log[at] as usize;
@@ -26,7 +26,7 @@ fn entry_at(log: &[u8], k: usize) -> Configuration
 
 // Whether an entry is the root in a start state.
 fn is_start(initial: u32, entry: Configuration) -> bool
-    ensures { λ r. ⌜ r ≡ begins initial (numbered entry) ⌝ }
+    ensures { λ r. ⌜ r ≡ begins initial (entryOf entry) ⌝ }
 {
     if entry.node != 0 {
         return false;

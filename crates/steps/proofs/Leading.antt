@@ -17,6 +17,7 @@ use Rattle.model.specs.declared.Move.the-variants.{Stay, Up, Down}
 use Rattle.model.specs.Trees.{Tree, symbol, size}
 use Rattle.model.specs.Runs.{Position, place}
 use Rattle.algorithms.specs.Automaton.{Automaton}
+use Rattle.refusal.proofs.Cases.{or-first}
 use Rattle.refusal.proofs.Passed.{clash, and-is-true}
 use Rattle.transitions.specs.Compiled.{Next, nextIn, Compiled}
 use Rattle.links.specs.Numbers.{Numbered}
@@ -44,9 +45,6 @@ some-true f e = by (f Stay) (f Up) (f (Down Left)) (f (Down Right)) refl refl re
 or-later : (a b : Bool) → b ≡ true → (a || b) ≡ true
 or-later true b e = refl
 or-later false b e = e
-
-or-first : (a b : Bool) → a ≡ true → (a || b) ≡ true
-or-first a b e = rw e
 
 pub true-some : (f : Move → Bool) (μ : Move) → f μ ≡ true → someMove f ≡ true
 true-some f Stay e = or-first _ _ e

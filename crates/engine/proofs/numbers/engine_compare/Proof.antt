@@ -8,7 +8,7 @@ use lib.ListN.{length}
 use Rattle.agreement.specs.Common.{commonPart}
 use Rattle.logs.specs.Compare.{partOf}
 use Rattle.logs.specs.declared.Compared.{Compared}
-use Rattle.logs.proofs.Right.{numbered}
+use Rattle.logs.proofs.Right.{answer-right}
 use Rattle.numbering.specs.Numbers.{comparedNumber, comparedCounts, comparedTold}
 use Rattle.engine.proofs.numbers.engine_compare.Statement.{statement}
 use Rattle.engine.proofs.numbers.engine_compare.Tie as tie
@@ -34,5 +34,5 @@ engine-compare-spec = tie.close (tie.spec
         put .1 ∙ ap₂ (λ (x : Compared) (l : List ℕ). comparedCounts x (length l)) e part,
         put .2 ∙ ap comparedTold e,
       ),
-      (answer .result, put .0, counts ∙ length-told (answer .result) _ _, put .2, numbered _ _ _ _ (answer .result) e),
+      (answer .result, put .0, counts ∙ length-told (answer .result) _ _, put .2, answer-right _ _ _ _ (answer .result) e),
     )))

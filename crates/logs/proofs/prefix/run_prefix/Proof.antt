@@ -3,7 +3,7 @@
 use Prim.Native.Nat.{_-_}
 use native.Mathlib.Omega.{arith}
 use borrow.Author.Tests.{not-true, not-false}
-use Rattle.logs.specs.Counting.{numbered, Countable}
+use Rattle.logs.specs.Counting.{entryOf, Countable}
 use Rattle.logs.proofs.Counting.{Counted, none-counted, not-begun, count-begins, step-asks, all-counted, count-ends, count-on}
 use borrow.Author.Needs.{needs}
 use Rattle.logs.proofs.prefix.run_prefix.Statement.{statement}
@@ -11,7 +11,7 @@ use Rattle.logs.proofs.prefix.run_prefix.Tie as tie
 
 abbrev Inv-loop : tie.InvT-loop
 Inv-loop nodes table parents rights initial log n last₀ k₀ last k =
-    (w : Countable initial nodes table parents rights) → Counted (w .automaton) (w .tree) log n k (numbered last)
+    (w : Countable initial nodes table parents rights) → Counted (w .automaton) (w .tree) log n k (entryOf last)
 
 abbrev μ-loop : tie.MeasureT-loop
 μ-loop nodes table parents rights initial log n last₀ k₀ last k = n - k
