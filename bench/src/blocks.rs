@@ -73,6 +73,6 @@ pub fn check_zeros(content: &[u8], zeros: &[usize], payload: usize) -> Result<()
 }
 
 /// Whether all bytes are zero.
-fn all_zero(bytes: &[u8]) -> bool {
+pub fn all_zero(bytes: &[u8]) -> bool {
     bytes.iter().fold(0, |seen, byte| seen | byte) == 0
 }

@@ -15,6 +15,9 @@ const ROOT: usize = 0;
 pub const LEFT_PART: usize = 1;
 pub const RIGHT_PART: usize = 2;
 
+/// What a part does for a node, by the node's place: the pairs of a step down to the part followed by an overloop of it.
+pub type Done = [Table; 3];
+
 /// A row that is not empty, with its state.
 struct Row {
     state: usize,
@@ -57,6 +60,13 @@ fn add_part(table: &mut Table, down: &[Row], overloops: &Table) {
     for row in down {
         table[row.state] |= numbers(row.next).fold(0, |sum, next| sum | overloops[next]);
     }
+}
+
+/// The pairs of a step down followed by an overloop of the part.
+fn part_done(down: &[Row], overloops: &Table) -> Table {
+    let mut table = NO_PAIRS;
+    add_part(&mut table, down, overloops);
+    table
 }
 
 /// The row, where the set has the state, else nothing.
@@ -190,6 +200,37 @@ impl Tables {
     pub fn node(&self, symbol: usize, place: usize, left: &Table, right: &Table) -> Table {
         let at = &self.transitions[symbol][place];
         follow(&joined(at, left, right), at)
+    }
+
+    pub fn alphabet(&self) -> Alphabet {
+        self.alphabet
+    }
+
+    /// What a part with these overloops does at a symbol, as the left part and as the right part.
+    pub fn done_left(&self, symbol: usize, overloops: &Table) -> Done {
+        self.transitions[symbol].each_ref().map(|at| part_done(&at.left, overloops))
+    }
+
+    pub fn done_right(&self, symbol: usize, overloops: &Table) -> Done {
+        self.transitions[symbol].each_ref().map(|at| part_done(&at.right, overloops))
+    }
+
+    /// The closed table of a node at a place, from what its parts do.
+    fn closed_of(&self, symbol: usize, place: usize, left: &Done, right: &Done) -> Table {
+        let stay = &self.transitions[symbol][place].stay;
+        let mut table = std::array::from_fn(|p| stay[p] | left[place][p] | right[place][p]);
+        close(&mut table);
+        table
+    }
+
+    /// The overloops of a node at a place, from what its parts do.
+    pub fn node_of(&self, symbol: usize, place: usize, left: &Done, right: &Done) -> Table {
+        follow(&self.closed_of(symbol, place, left, right), &self.transitions[symbol][place])
+    }
+
+    /// Whether a node whose parts do this is accepted as a whole tree.
+    pub fn accepts_over(&self, symbol: usize, left: &Done, right: &Done) -> bool {
+        self.accepting(&self.closed_of(symbol, ROOT, left, right))
     }
 
     /// Whether a tree is accepted: a leaf, or a node over parts with these overloops.

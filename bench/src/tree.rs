@@ -47,6 +47,20 @@ pub fn read(file: &[u8], alphabet: Alphabet) -> Result<Nodes, Refusal> {
     Ok(nodes)
 }
 
+/// The number of nodes of a file that lines 1 to 6 do not refuse, found without a copy.
+pub fn framed(file: &[u8]) -> Option<usize> {
+    let whole = !file.is_empty() && file.len().is_multiple_of(blocks::BLOCK) && file.len() <= MOST_BYTES;
+    if !whole || blocks::first_wrong(file).is_some() || file[..2] != [KIND, 0] {
+        return None;
+    }
+    let nodes = usize::from(u16::from_le_bytes([file[2], file[3]]));
+    let last = file.len() / blocks::BLOCK - 1;
+    let filler = (4 + nodes).checked_sub(last * blocks::CONTENT)?;
+    let fits = (1..=MOST_NODES).contains(&nodes) && (1..=blocks::CONTENT).contains(&filler);
+    let block = &file[last * blocks::BLOCK..][..blocks::CONTENT];
+    (fits && blocks::all_zero(&block[filler..])).then_some(nodes)
+}
+
 /// The file of the tree with these symbols in preorder.
 pub fn write(symbols: &[u8]) -> Vec<u8> {
     let mut payload = vec![KIND, 0];
