@@ -37,7 +37,7 @@ wordUnder cell k = cond (eqb (keyIn cell) k) (wordIn cell) 0
 
 -- the class that a word names
 abbrev pub idOf : ℕ → ℕ
-idOf w = w % 2048
+idOf w = w % 1024
 
 -- a word that is not 0 names the class of the node
 abbrev pub Right : Automaton → (count : ℕ) (store : List ℕ) (σ l r w : ℕ) → Type 0

@@ -36,7 +36,7 @@ module _ (s : List ℕ) (i : ℕ) where
   end-by true e h = let z : _≡_ {A = ℕ} 0 1 = cc in absurd (omega arith)
   end-by false e h = ltb-false i (length s) e
 
-  end-here : End ≡ nodeAt s i → length s ≤ i
+  pub end-here : End ≡ nodeAt s i → length s ≤ i
   unfolding nodeAt
   end-here h = end-by (ltb i (length s)) refl h
 

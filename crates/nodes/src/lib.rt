@@ -1,5 +1,5 @@
 // The node list of a tree: one symbol a node, in preorder. Lines 10 to 12 of the table of refusals.
-mod reader;
+pub mod reader;
 
 use crate::reader::Here;
 use crate::reader::moved_on;

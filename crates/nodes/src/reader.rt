@@ -56,3 +56,10 @@ pub fn moved_on<'a>(reader: Reader<'a>) -> Reader<'a>
         at: place_after(reader.symbols, reader.at),
     }
 }
+
+// The node at a place of a list, by a reader there.
+pub fn read_at(symbols: &[u8], at: usize) -> Here
+    ensures { λ r. ⌜ r ≡ nodeAt (now (symbols .entry)) at ⌝ }
+{
+    read(Reader { symbols, at })
+}

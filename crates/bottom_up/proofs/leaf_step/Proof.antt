@@ -1,0 +1,40 @@
+-- `bottom_up::leaf_step` meets its contract.
+-- Assumes nothing.
+use Rattle.bottom_up.proofs.Loading.{leaf-on}
+use native.Mathlib.Omega.{arith}
+use borrow.Author.Needs.{needs}
+use Rattle.bottom_up.proofs.leaf_step.Statement.{statement}
+use Rattle.bottom_up.proofs.leaf_step.Tie as tie
+
+returns : tie.Need-returns
+returns c = λ A sg s k small m h. h .cached
+
+returns-2 : tie.Need-returns-2
+returns-2 c = λ A sg s k small m h. h .cached
+
+leaf-word-requires : tie.Need-leaf-word-requires
+leaf-word-requires c κs = search needs
+
+returns-3 : tie.Need-returns-3
+returns-3 c = λ A sg s k small m h. c .before .leaf-word .ensures A k (h .cached) .0 .cached
+
+packed-requires : tie.Need-packed-requires
+packed-requires c κs = search needs
+
+push-requires : tie.Need-push-requires
+push-requires c κs = search needs
+
+returns-4 : tie.Need-returns-4
+returns-4 c = λ A sg s k small m h. let read = c .before .before .before .before .leaf-word .ensures A k (h .cached) in leaf-on A sg _ _ _ _ _ _ _ _ s _ _ _ _ _ _ _ (k .proper) h (read .0) (read .1) (omega (arith, c .before .before .before .if3 .left)) small m (c .before .packed .ensures .0) (c .before .packed .ensures .1) (c .push .ensures .1)
+
+pub leaf-step-spec : {M : Type 1} → statement M
+leaf-step-spec =
+    tie.close
+    (tie.spec
+    returns
+    returns-2
+    leaf-word-requires
+    returns-3
+    packed-requires
+    push-requires
+    returns-4)

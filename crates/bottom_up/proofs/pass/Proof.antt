@@ -1,0 +1,102 @@
+-- `bottom_up::pass` meets its contract. The invariant: the stack tells of the trees that the list writes from a node on.
+-- Assumes nothing.
+use borrow.Author.Needs.{needs}
+use Prim.Native.Nat.{ℕ, _≤_, _<_}
+use native.Mathlib.Omega.{arith}
+use mathlib.Core.Path.{_≡_, refl, sym, _∙_}
+use lib.ListN.{length, drop}
+use Rattle.algorithms.specs.Automaton.{Automaton}
+use Rattle.overloops.specs.Tables.{Tabled}
+use Rattle.nodes.proofs.Reached.{symbol-here}
+use Rattle.determinization.specs.Cache.{CachedIn}
+use Rattle.bottom_up.specs.Steps.{signatureIn, Loaded}
+use Rattle.bottom_up.proofs.Ending.{begun, from, whole}
+use Rattle.bottom_up.proofs.pass.Statement.{statement}
+use Rattle.bottom_up.proofs.pass.Tie as tie
+
+abbrev Inv-loop : tie.InvT-loop
+Inv-loop symbols header table counts₀ store₀ maps₀ cells₀ hints₀ words₀ stack₀ at₀ counts store maps cells hints words stack at =
+    (0 < at) × (at ≤ length symbols) × ((A : Automaton) → Tabled A (header .states) table → CachedIn A counts₀ store₀ maps₀ cells₀
+    → Loaded A (signatureIn header) counts store maps cells words (drop at symbols) stack)
+
+abbrev μ-loop : tie.MeasureT-loop
+μ-loop symbols header table counts₀ store₀ maps₀ cells₀ hints₀ words₀ stack₀ at₀ counts store maps cells hints words stack at = at
+
+loop-holds : tie.Need-loop-holds Inv-loop μ-loop
+loop-holds c = (search needs, search needs, λ A k h. begun A _ _ _ _ _ _ (c .before .args .symbols .now) refl h)
+
+sub-at : tie.Need-sub-at Inv-loop μ-loop
+sub-at c = search needs
+
+read-at-requires : tie.Need-read-at-requires Inv-loop μ-loop
+read-at-requires c κs = search needs
+
+enum-known-symbol : tie.Need-enum-known-symbol Inv-loop μ-loop
+enum-known-symbol c = search needs
+
+enum-told : tie.Need-enum-told Inv-loop μ-loop
+enum-told c = search needs
+
+returns : tie.Need-returns Inv-loop μ-loop
+returns c = λ A k h. (c .before .before .before .before .loop .inv .2 A k h .cached, tt)
+
+node-step-requires : tie.Need-node-step-requires Inv-loop μ-loop
+node-step-requires c κs = search needs
+
+enum-known-next : tie.Need-enum-known-next Inv-loop μ-loop
+enum-known-next c = search needs
+
+loop-less : tie.Need-loop-less Inv-loop μ-loop
+loop-less c = search needs
+
+loop-again : tie.Need-loop-again Inv-loop μ-loop
+loop-again c =
+    let v = c .before .before .before .before .before .before .before .before .before .before .before .before .before .before .before .loop .inv in
+    let on = c .before .next .given .1 in
+    let here = symbol-here _ _ _ (sym (c .before .before .before .before .before .before .before .before .before .before .before .symbol .given .1) ∙ c .before .before .before .before .before .before .before .before .before .before .before .before .before .read-at .ensures) in (
+      omega (arith, c .before .before .before .before .before .before .before .before .before .before .before .before .before .before .loop-test .taken),
+      omega (arith, v .1),
+      λ A k h.
+          rw (from _ _ (v .0) (v .1), ← here .1) (rw on at (c .before .before .before .node-step .ensures A _ k (v .2 A k h))),
+    )
+
+enum-told-2 : tie.Need-enum-told-2 Inv-loop μ-loop
+enum-told-2 c = search needs
+
+returns-2 : tie.Need-returns-2 Inv-loop μ-loop
+returns-2 c = λ A k h. (rw (c .enum-told2 .given .1) at (c .before .before .node-step .ensures A _ k (c .before .before .before .before .before .before .before .before .before .before .before .before .before .before .loop .inv .2 A k h)), tt)
+
+shared-slice-read-t24 : tie.Need-shared-slice-read-t24 Inv-loop μ-loop
+shared-slice-read-t24 c = search needs
+
+ended-requires : tie.Need-ended-requires Inv-loop μ-loop
+ended-requires c κs = search needs
+
+returns-3 : tie.Need-returns-3 Inv-loop μ-loop
+returns-3 c = λ A k h.
+    let v = c .before .before .before .loop .inv in
+    let one : c .before .before .before .loop .at ≡ 1 = omega (arith, v .0, c .before .before .loop-test .left) in
+    let read = v .2 A k h in
+    (read .cached, rw (whole (c .before .before .before .before .before .args .symbols .now) (c .before .before .before .loop .at) one (c .before .before .before .before .before .pre .0)) at (c .ended .ensures A _ _ _ _ _ _ read))
+
+pub pass-spec : {M : Type 1} → statement M
+pass-spec =
+    tie.close
+    (tie.spec
+    Inv-loop
+    μ-loop
+    loop-holds
+    sub-at
+    read-at-requires
+    enum-known-symbol
+    enum-told
+    returns
+    node-step-requires
+    enum-known-next
+    loop-less
+    loop-again
+    enum-told-2
+    returns-2
+    shared-slice-read-t24
+    ended-requires
+    returns-3)
