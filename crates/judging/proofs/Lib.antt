@@ -1,0 +1,2 @@
+-- The laws of judging by classes.
+pub mod Laws

@@ -1,0 +1,2 @@
+-- What judging by classes tells of a tree's file.
+pub mod Verdicts
