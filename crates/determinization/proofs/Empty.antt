@@ -12,7 +12,7 @@ use Rattle.algorithms.specs.Automaton.{Automaton}
 use Rattle.overloops.specs.Tables.{sideNumber}
 use Rattle.overloops.proofs.Laws.{side-small, part-is}
 use Rattle.determinization.specs.Classes.{rowsPlace, rowsOf}
-use Rattle.determinization.specs.Cache.{indexPlace, classes, indices, wordIn, CachedIn}
+use Rattle.determinization.specs.Cache.{indexPlace, classes, indices, CachedIn, Kept}
 
 pub zeros : (n i : ℕ) → getD {A = ℕ} (replicate n 0) i 0 ≡ 0
 zeros zero i = refl
@@ -53,12 +53,6 @@ empty A counts store maps cells lu ls lm lc one ones blank zm zc = record {
   keyed = λ n l r some small e. absurd (omega (arith, zc n));
   right = λ n σ l r b hl hr e some. absurd (omega (arith, zc n));
 }
-
--- counts that stay but for those that the cache does not go by
-pub record Kept (counts counts′ : List ℕ) : Type 0 where
-  pub size : length counts′ ≡ length counts
-  pub classes-are : classes counts′ ≡ classes counts
-  pub indices-are : (s : Side) → indices counts′ s ≡ indices counts s
 
 pub kept-cache : (A : Automaton) (counts counts′ store maps cells : List ℕ) → Kept counts counts′ → CachedIn A counts store maps cells
     → CachedIn A counts′ store maps cells

@@ -1,7 +1,7 @@
 -- The cache: lent tables that hold the classes met so far and, of nodes over them, the classes that were computed. 0 is "not known yet".
 -- At a symbol a class has an index as a left part and one as a right part; classes that do the same there may share it. A cell is a key, made
 -- of the indices of a node's two parts, over a word, which names the node's class. Where a key stands among the cells does not matter.
--- Interface: `indexAt`, `key`, `wordUnder`, `idOf`, `Right`, `classes`, `indices`, `CachedIn`, `After`.
+-- Interface: `indexAt`, `key`, `wordUnder`, `idOf`, `Right`, `classes`, `indices`, `CachedIn`, `After`, `Kept`.
 use Prim.Native.Nat.{ℕ, _+_, _*_, _/_, _%_, _<_, _≤_}
 use mathlib.Core.Path.{_≡_}
 use mathlib.Core.Bool.{cond}
@@ -79,3 +79,9 @@ pub record After (A : Automaton) (counts store counts′ store′ maps′ cells�
   pub cached : CachedIn A counts′ store′ maps′ cells′
   pub same : Same (classes counts) store store′
   pub more : classes counts ≤ classes counts′
+
+-- counts that stay but for those that the cache does not go by
+pub record Kept (counts counts′ : List ℕ) : Type 0 where
+  pub size : length counts′ ≡ length counts
+  pub classes-are : classes counts′ ≡ classes counts
+  pub indices-are : (s : Side) → indices counts′ s ≡ indices counts s

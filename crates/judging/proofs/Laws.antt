@@ -1,12 +1,13 @@
 -- What the nodes of a file tell of the file.
 -- Assumes nothing.
-use Prim.Native.Nat.{ℕ, _<_}
+use Prim.Native.Nat.{ℕ, _+_, _<_}
 use native.Mathlib.Omega.{arith}
+use native.Mathlib.Decide.{ℕ-discrete}
 use mathlib.Core.Path.{_≡_, sym, ap, _∙_}
 use mathlib.Core.Bool.{Bool, true, false}
 use mathlib.Core.List.{List}
-use lib.ListN.{set, length-set}
-use lib.Seq.{getD-set-other}
+use lib.ListN.{length, getD, set, length-set}
+use lib.Seq.{getD-set-same, getD-set-other}
 use Rattle.model.specs.Trees.{Tree}
 use Rattle.model.specs.declared.Side.{Side}
 use Rattle.model.specs.declared.Signature.{Signature}
@@ -22,8 +23,8 @@ use Rattle.tree.specs.Unpacked.{Unpacked}
 use Rattle.tree.specs.declared.file.ParsedTree.{ParsedTree}
 use Rattle.overloops.specs.Ready.{Headed}
 use Rattle.membership.proofs.Laws.{judged-nodes}
-use Rattle.determinization.specs.Cache.{indices}
-use Rattle.determinization.proofs.Empty.{Kept}
+use Rattle.determinization.specs.Cache.{indices, CachedIn, Kept}
+use Rattle.determinization.proofs.Empty.{all-zero, empty, kept-cache}
 use Rattle.bottom_up.specs.Steps.{signatureIn}
 use Rattle.bottom_up.specs.Verdicts.{Tells}
 use Rattle.bottom_up.specs.declared.Verdict.{Verdict}
@@ -53,3 +54,35 @@ kept-set counts at v far = record {
     other : (s : Side) → indices (set counts at v) s ≡ indices counts s
     other Side.Left = getD-set-other counts at 1 v 0 (λ e. omega arith)
     other Side.Right = getD-set-other counts at 2 v 0 (λ e. omega arith)
+
+-- one number more is 0
+pub cleared-more : (l : List ℕ) (i : ℕ) → i < length l → ((j : ℕ) → j < i → getD l j 0 ≡ 0) → (j : ℕ) → j < i + 1 → getD (set l i 0) j 0 ≡ 0
+cleared-more l i h f j b = by (ℕ-discrete j i)
+  where
+    by : Dec (j ≡ i) → getD (set l i 0) j 0 ≡ 0
+    by (yes e) = rw e (getD-set-same l i 0 0 h)
+    by (no n) = getD-set-other l i j 0 0 n ∙ f j (omega arith)
+
+-- a cache that begins anew: the store keeps class 0
+pub renewed : (A : Automaton) (counts store maps cells maps′ cells′ : List ℕ) (e : ℕ) → CachedIn A counts store maps cells
+    → (length maps′ ≡ length maps) × ((i : ℕ) → i < length maps′ → getD maps′ i 0 ≡ 0)
+    → (length cells′ ≡ length cells) × ((i : ℕ) → i < length cells′ → getD cells′ i 0 ≡ 0)
+    → CachedIn A (set (set (set (set counts 0 1) 1 1) 2 1) 4 e) store maps′ cells′
+renewed A counts store maps cells maps′ cells′ e k m c =
+    let n = k .counts-size in
+    let l₁ : length (set counts 0 1) ≡ 6 = length-set counts 0 1 ∙ n in
+    let l₂ : length (set (set counts 0 1) 1 1) ≡ 6 = length-set (set counts 0 1) 1 1 ∙ l₁ in
+    let l₃ : length (set (set (set counts 0 1) 1 1) 2 1) ≡ 6 = length-set (set (set counts 0 1) 1 1) 2 1 ∙ l₂ in
+    let kept = kept-set (set (set (set counts 0 1) 1 1) 2 1) 4 e (omega arith) in
+    kept-cache A (set (set (set counts 0 1) 1 1) 2 1) (set (set (set (set counts 0 1) 1 1) 2 1) 4 e) store maps′ cells′ kept
+    (empty A (set (set (set counts 0 1) 1 1) 2 1) store maps′ cells′ l₃ (k .store-size) (m .0 ∙ k .maps-size) (c .0 ∙ k .cells-size)
+    (getD-set-other (set (set counts 0 1) 1 1) 2 0 1 0 (λ x. omega arith) ∙ getD-set-other (set counts 0 1) 1 0 1 0 (λ x. omega arith)
+    ∙ getD-set-same counts 0 1 0 (omega arith))
+    ones (k .blank) (all-zero maps′ (m .1)) (all-zero cells′ (c .1)))
+  where
+    ones : (s : Side) → indices (set (set (set counts 0 1) 1 1) 2 1) s ≡ 1
+    ones Side.Left =
+        getD-set-other (set (set counts 0 1) 1 1) 2 1 1 0 (λ x. omega arith)
+        ∙ getD-set-same (set counts 0 1) 1 1 0 (omega (arith, length-set counts 0 1, k .counts-size))
+    ones Side.Right =
+        getD-set-same (set (set counts 0 1) 1 1) 2 1 0 (omega (arith, length-set (set counts 0 1) 1 1, length-set counts 0 1, k .counts-size))

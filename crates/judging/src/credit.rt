@@ -8,8 +8,7 @@ ghost use mathlib.Core.List.{List};
 ghost use Prim.Native.Nat.{ℕ, _<_};
 ghost use lib.ListN.{length, getD};
 ghost use Rattle.algorithms.specs.Automaton.{Automaton};
-ghost use Rattle.determinization.specs.Cache.{CachedIn};
-ghost use Rattle.determinization.proofs.Empty.{Kept};
+ghost use Rattle.determinization.specs.Cache.{CachedIn, Kept};
 
 // Whether the cache is asked for the next tree, which may then bring as many classes as there is credit for.
 pub fn begin(counts: &mut Counts) -> bool

@@ -114,9 +114,7 @@ pub fn judge_with(
     if !begin(counts) {
         return judge_file(header, table, file);
     }
-    let verdict = by_classes(
-        header, table, file, counts, store, maps, cells, hints,
-    );
+    let verdict = by_classes(header, table, file, counts, store, maps, cells, hints);
     end(counts);
     match verdict {
         Verdict::Accepted => Answer::Accepted,

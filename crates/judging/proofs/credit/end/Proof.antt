@@ -1,9 +1,10 @@
+-- `judging::credit::end` meets its contract.
+-- Assumes nothing.
+use Rattle.judging.proofs.Laws.{kept-set}
+use native.Mathlib.Omega.{arith}
 use borrow.Author.Needs.{needs}
 use Rattle.judging.proofs.credit.end.Statement.{statement}
 use Rattle.judging.proofs.credit.end.Tie as tie
-use Rattle.judging.proofs.credit.end.Reads as reads
-use Rattle.judging.proofs.credit.end.Lts as lts
-use Rattle.judging.proofs.credit.left.Reads as left-reads
 
 element-copy-out-left : tie.Need-element-copy-out-left
 element-copy-out-left c = search needs
@@ -18,7 +19,7 @@ element-write-counts : tie.Need-element-write-counts
 element-write-counts c = search needs
 
 returns : tie.Need-returns
-returns c = ?
+returns c = kept-set _ 4 _ (omega arith)
 
 pub end-spec : {M : Type 1} → statement M
 end-spec =
