@@ -101,7 +101,7 @@ more-whole A t s e = ltb-false _ _ (more-by (eqb (length s) 0) (ltb (length s) (
 
 -- ---- the batch
 
-rest-shorter : (s : List ℕ) → firstLength s ≤ length s → length (restOf s) + 512 ≤ length s
+pub rest-shorter : (s : List ℕ) → firstLength s ≤ length s → length (restOf s) + 512 ≤ length s
 rest-shorter s l = simp length-drop (omega (arith, some-block (take 512 s)))
 
 goes-by : (m : Bool) (u a b : Tally) → (m ≡ true → a ≡ b) → cond m a u ≡ cond m b u

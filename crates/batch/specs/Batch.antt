@@ -1,6 +1,6 @@
 -- A batch (document 01, "Tally and report"): trees' files end to end, each counted, until the input or the batch ends. The quotations are of
--- that section. Interface: `fileBlocks`, `firstLength`, `turnOf`, `IsFile`, `nextIn`, `batchOf`, `nothingCounted`,
--- `talliedOf`.
+-- that section. Interface: `fileBlocks`, `firstLength`, `turnOf`, `nextIn`, `batchOf`, `nothingCounted`, `talliedOf`. `Answers` has the
+-- same file by file.
 use mathlib.Core.Bool.{Bool, true, false, not, cond, _&&_}
 use mathlib.Core.List.{List}
 use Prim.Native.Nat.{ℕ, zero, suc, _+_, _*_}

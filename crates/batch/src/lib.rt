@@ -1,5 +1,6 @@
 // A batch: the files of trees, end to end, and their tally. `file` has it over an automaton's file.
 pub mod file;
+pub mod part;
 
 use automaton::Header;
 use membership::Answer;

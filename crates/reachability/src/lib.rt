@@ -242,14 +242,13 @@ fn search(
     ensures { λ r. ⌜ (r ≡ true) ↔ Found (nextIn (now (table .entry))) (now (symbols .entry)) (now (parents .entry)) (now (rights .entry))
         (header .initial) (header .accepting) ⌝ }
 {
-    let nodes = symbols.len();
     let mut height: usize = 0;
     reached[0] = header.initial;
     fresh[0] = header.initial;
     while reached[0] & header.accepting == 0 {
-        let popped = pop(fresh, waiting, nodes, height);
+        let popped = pop(fresh, waiting, symbols.len(), height);
         let node = popped.node;
-        if node == nodes {
+        if node == symbols.len() {
             return false;
         }
         height = turn(

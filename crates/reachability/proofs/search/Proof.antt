@@ -14,12 +14,12 @@ use Rattle.reachability.proofs.search.Statement.{statement}
 use Rattle.reachability.proofs.search.Tie as tie
 
 abbrev Inv-loop : tie.InvT-loop
-Inv-loop symbols header table parents rights reached₀ fresh₀ waiting₀ nodes height₀ reached fresh waiting height =
+Inv-loop symbols header table parents rights reached₀ fresh₀ waiting₀ height₀ reached fresh waiting height =
     (length reached ≡ length reached₀) × (length fresh ≡ length fresh₀) × (length waiting ≡ length waiting₀) × (height ≤ length waiting)
     × Searched (nextIn table) symbols parents rights (header .initial) reached fresh
 
 abbrev μ-loop : tie.MeasureT-loop
-μ-loop symbols header table parents rights reached₀ fresh₀ waiting₀ nodes height₀ reached fresh waiting height = weight reached fresh
+μ-loop symbols header table parents rights reached₀ fresh₀ waiting₀ height₀ reached fresh waiting height = weight reached fresh
 
 -- the words are as many as they were
 reached-same : (c : tie.At-loop Inv-loop μ-loop) → length (c .loop .reached) ≡ length (c .before .before .before .before .before .before .before .args .reached .now)

@@ -1,0 +1,4 @@
+pub mod Values
+pub mod Turns
+pub mod Reached
+pub mod Counted
