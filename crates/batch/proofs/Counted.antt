@@ -6,7 +6,7 @@ use mathlib.Core.Path.{_≡_, refl, sym, ap, _∙_}
 use mathlib.Core.Bool.{Bool, true, false, not, _||_, _&&_, cond}
 use mathlib.Core.List.{List, [], _∷_, _++_}
 use native.Mathlib.Decide.{decLt}
-use borrow.Author.Tests.{ltb-true, eq-eqb}
+use borrow.Author.Tests.{ltb-true, eq-eqb, lt-ltb}
 use lib.Dec.{eqb, ltb}
 use lib.ListN.{length, take, drop, length-drop}
 use lib.Seq.{take-at, take-all}
@@ -21,7 +21,7 @@ use Rattle.tally.specs.Tally.{limitCheck, countedUp}
 use Rattle.tally.specs.declared.Tally.{Tally}
 use Rattle.tally.specs.declared.Outcome.{Outcome}
 use Rattle.counting.specs.Counting.{countedAll}
-use Rattle.batch.specs.Batch.{firstLength, restOf, outcomeOf, endsBatch, turnBy, turnOf, passes, taken, nextIn, goingOn, batchOf}
+use Rattle.batch.specs.Batch.{firstLength, restOf, restCounted, outcomeOf, endsBatch, turnBy, turnOf, passes, taken, nextIn, goingOn, batchOf}
 use Rattle.batch.specs.Answers.{answersBy, firstAnswer, lastAnswer, answersOf, countedAnswers, answerNumbers, allNumbers, laterIf, Part}
 use Rattle.batch.specs.declared.part.Judged.{Judged}
 use Rattle.batch.proofs.Laws.{some-block, batch-next}
@@ -155,3 +155,11 @@ part-counted A s lent lent′ r p t rest =
     ∙ counted-append t (p .answers) (laterIf (r .more) (answersOf A (drop (r .bytes) s ++ rest)))
     ∙ gone A (r .more) (countedAnswers t (p .answers)) (drop (r .bytes) s ++ rest)
     ∙ ap (λ (u : Tally). goneOn A (r .more) u (drop (r .bytes) s ++ rest)) (sym (ap (countedAll t) front ∙ counted-numbers t (p .answers)))
+
+-- less than a file
+pub batch-rest : (A : Automaton) (t : Tally) (s : List ℕ) → length s < firstLength s → batchOf A t s ≡ restCounted t (length s)
+batch-rest A t s l = batch-answers A t s ∙ ap (countedAnswers t) (answers-next A s) ∙ by (eqb (length s) 0)
+  where
+    by : (b : Bool) → countedAnswers t (answersBy b (lastAnswer A s) (firstAnswer A s) (answersOf A (restOf s))) ≡ cond b t (countedUp t Outcome.Refused .tally)
+    by true = refl
+    by false = rw (lt-ltb (length s) (firstLength s) l) (ap (λ (o : Outcome). countedUp t o .tally) (cut-refused A s l))

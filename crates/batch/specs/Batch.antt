@@ -92,6 +92,10 @@ taken t (Turn.File o more) = record { tally = countedUp t o .tally; more = passe
 unfoldable pub nextIn : Automaton → Tally → (s : List ℕ) → Next
 nextIn A t s = taken t (turnOf A s)
 
+-- what is left of the input, less than a file, adds
+abbrev pub restCounted : Tally → (left : ℕ) → Tally
+restCounted t left = cond (eqb left 0) t (countedUp t Outcome.Refused .tally)
+
 -- ---- the whole batch
 
 -- what follows the first file

@@ -12,14 +12,13 @@ pub fn tally(automaton: &[u8], trees: &[u8], before: Tally) -> Tallied
     ensures { λ r. ⌜ r ≡ talliedOf (now (automaton .entry)) (now (trees .entry)) before ⌝ }
 {
     let mut table = [0u32; 9216];
-    let mut leaves = [0u32; 1536];
-    match overloops::prepare(automaton, &mut table, &mut leaves) {
+    match transitions::load(automaton, &mut table) {
         Parsed::Refused(refusal) => Tallied {
             tally: before,
             check: Check::Refused(refusal),
         },
         Parsed::Read(header) => {
-            let tally = tally_all(before, header, &table, &leaves, trees);
+            let tally = tally_all(before, header, &table, trees);
             Tallied {
                 tally,
                 check: Check::Passed,

@@ -2,7 +2,9 @@
 pub mod file;
 pub mod part;
 
+use crate::part::judge_part;
 use automaton::Header;
+use counting::count_all;
 use membership::Answer;
 use membership::judge_file;
 use overloops::LeafTable;
@@ -17,8 +19,8 @@ ghost use Prim.Native.Nat.{_<_, _≤_};
 ghost use lib.ListN.{length, drop};
 ghost use Rattle.algorithms.specs.Automaton.{Automaton};
 ghost use Rattle.automaton.specs.File.{WithinLimits};
-ghost use Rattle.overloops.specs.Ready.{Ready};
-ghost use Rattle.batch.specs.Batch.{fileBlocks, firstLength, outcomeOf, endsBatch, judgedTurn, passes, turnOf, IsFile, restOf, batchOf};
+ghost use Rattle.overloops.specs.Ready.{Headed, Ready};
+ghost use Rattle.batch.specs.Batch.{fileBlocks, firstLength, outcomeOf, endsBatch, judgedTurn, passes, turnOf, IsFile, restOf, restCounted, batchOf};
 ghost use Rattle.batch.specs.declared.Turn.{Turn};
 
 // What a batch has next: nothing, as there is no input left; or a file, by its outcome and whether the batch goes on after it.
@@ -149,29 +151,51 @@ fn turn_after(
     }
 }
 
-// The tally of all files, onto a tally.
-pub fn tally_all(
-    before: Tally,
-    header: Header,
-    table: &TransitionTable,
-    leaves: &LeafTable,
-    bytes: &[u8],
-) -> Tally
-    requires { ⌜ WithinLimits header ⌝ }
-    ensures { λ r. ⌜ ((A : Automaton) → Ready A header (now (table .entry)) (now (leaves .entry))
-        → r ≡ batchOf A before (now (bytes .entry))) ⌝ }
+// What input that stops inside a file adds to a tally: one refused. Where nothing is left it adds nothing.
+pub fn count_rest(tally: Tally, left: usize) -> Tally
+    ensures { λ r. ⌜ r ≡ restCounted tally left ⌝ }
 {
+    if left == 0 {
+        return tally;
+    }
+    let counted = tally::counted(tally, Outcome::Refused);
+    counted.tally
+}
+
+// The tally of all files, onto a tally. 128 files at a time are judged, and then their answers are counted.
+pub fn tally_all(before: Tally, header: Header, table: &TransitionTable, bytes: &[u8]) -> Tally
+    requires { ⌜ WithinLimits header ⌝ }
+    ensures { λ r. ⌜ ((A : Automaton) → Headed A header (now (table .entry)) → r ≡ batchOf A before (now (bytes .entry))) ⌝ }
+{
+    let mut counts = [1u32; 6];
+    let mut store = [0u32; 49152];
+    let mut maps = [0u16; 66560];
+    let mut cells = [0u64; 16384];
+    let mut hints = [0u16; 6144];
+    let mut answers = [0usize; 384];
+    counts[4] = 1024;
     let mut tally = before;
     let mut at: usize = 0;
-    let mut turn = turn_in(header, table, leaves, bytes);
     loop {
-        match turn {
-            Turn::End => return tally,
-            Turn::File(outcome, more) => {
-                let check = count(&mut tally, outcome);
-                at = place_after(bytes, at);
-                turn = turn_after(check, more, at, header, table, leaves, bytes);
-            }
+        let part = judge_part(
+            header,
+            table,
+            back(bytes, at),
+            &mut answers,
+            &mut counts,
+            &mut store,
+            &mut maps,
+            &mut cells,
+            &mut hints,
+        );
+        let numbers = 3 * part.files;
+        tally = count_all(tally, &answers[..numbers]);
+        at += part.bytes;
+        if !part.more {
+            return tally;
+        }
+        if part.files < 128 {
+            return count_rest(tally, bytes.len() - at);
         }
     }
 }
