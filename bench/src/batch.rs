@@ -39,7 +39,7 @@ pub fn percent([accepted, other, _]: Tally) -> u32 {
 }
 
 /// The first file, whose first block gives its length; nothing where the bytes stop inside it.
-fn first_file(trees: &[u8]) -> Option<&[u8]> {
+pub fn first_file(trees: &[u8]) -> Option<&[u8]> {
     let first = trees.get(..blocks::BLOCK)?;
     let nodes = usize::from(u16::from_le_bytes([first[2], first[3]]));
     trees.get(..blocks::BLOCK * (4 + nodes).div_ceil(blocks::CONTENT))

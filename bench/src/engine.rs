@@ -46,6 +46,15 @@ pub fn compare(file: &[u8], tree: &[u8], first: &[u8], second: &[u8]) -> Result<
     Ok(Compared { part: part.len(), first, second })
 }
 
+/// The engine's verdict on one tree's file.
+pub fn judge(automaton: &[u8], tree: &[u8]) -> Verdict {
+    match ::engine::judge(automaton, tree) {
+        Ok(::engine::Verdict::Accepted) => Verdict::Accepted,
+        Ok(::engine::Verdict::Other) => Verdict::Other,
+        Err(refused) => Verdict::Refused(refusal(refused)),
+    }
+}
+
 /// The engine's tally of trees' files end to end.
 pub fn tally(automaton: &[u8], trees: &[u8]) -> Result<Tally, Refusal> {
     let mut tally = ::engine::Tally::default();
@@ -66,10 +75,6 @@ impl Engine {
 
 impl Judge for Engine {
     fn judge(&self, file: &[u8]) -> Verdict {
-        match ::engine::judge(&self.automaton, file) {
-            Ok(::engine::Verdict::Accepted) => Verdict::Accepted,
-            Ok(::engine::Verdict::Other) => Verdict::Other,
-            Err(refused) => Verdict::Refused(refusal(refused)),
-        }
+        judge(&self.automaton, file)
     }
 }

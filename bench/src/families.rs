@@ -1,8 +1,8 @@
-//! Families of automata with 24 states and 512 rules, and the trees that they judge.
+//! Families of automata with 24 states and at most 512 rules, and the trees that they judge.
 use crate::{
     automaton::{Automaton, Rule, EVERY_PLACE, LEFT, MOST_RULES, MOST_STATES, RIGHT, STAY, UP},
     random::Random,
-    shapes::{self, SHAPES},
+    shapes::{self, Shape, SHAPES},
     tree,
 };
 
@@ -23,31 +23,55 @@ pub const FAMILIES: [Family; 5] = [
     Family { name: "deterministic", make: deterministic },
 ];
 
+/// Families whose trees keep bringing new classes: 64 of them some 89,000, 36,000, and 3,000 to 11,000.
+pub const EXPLODING: [Family; 3] = [
+    Family { name: "permutations", make: permutations },
+    Family { name: "spines", make: spines },
+    Family { name: "complete", make: complete },
+];
+
 /// An automaton's file, with the files of the trees that it judges.
 pub struct Case {
     pub automaton: Vec<u8>,
     pub trees: Vec<Vec<u8>>,
 }
 
+/// Makes the file of a tree for an automaton, by its number.
+pub type Make = fn(&Automaton, usize, &mut Random) -> Vec<u8>;
+
 impl Family {
     pub fn named(name: &str) -> Option<&'static Family> {
         FAMILIES.iter().find(|family| family.name == name)
     }
 
+    /// Each automaton with a large tree of each shape.
     pub fn cases(&self) -> Vec<Case> {
-        (1..=AUTOMATA).map(|seed| self.case(&mut Random::new(seed))).collect()
+        self.cases_of(SHAPES.len(), large_tree)
     }
 
-    fn case(&self, random: &mut Random) -> Case {
-        let automaton = (self.make)(random);
-        assert!(automaton.states == MOST_STATES && automaton.rules.len() == MOST_RULES);
-        let tree = |shape| {
-            let symbols = shapes::tree(&automaton, shape, BRANCHES, tree::MOST_HEIGHT, random);
-            tree::write(&symbols)
+    /// Each automaton with so many trees.
+    pub fn cases_of(&self, trees: usize, tree: impl Fn(&Automaton, usize, &mut Random) -> Vec<u8>) -> Vec<Case> {
+        let case = |seed| {
+            let random = &mut Random::new(seed);
+            let automaton = (self.make)(random);
+            assert!(automaton.states == MOST_STATES && automaton.rules.len() <= MOST_RULES);
+            let trees = (0..trees).map(|number| tree(&automaton, number, random)).collect();
+            Case { automaton: automaton.write(), trees }
         };
-        let trees = SHAPES.map(tree).into();
-        Case { automaton: automaton.write(), trees }
+        (1..=AUTOMATA).map(case).collect()
     }
+}
+
+/// The file of a tree of 4,095 nodes, of each shape in turn.
+pub fn large_tree(automaton: &Automaton, number: usize, random: &mut Random) -> Vec<u8> {
+    let shape = SHAPES[number % SHAPES.len()];
+    tree::write(&shapes::tree(automaton, shape, BRANCHES, tree::MOST_HEIGHT, random))
+}
+
+/// The file of a tree of 5 to 59 nodes by chance, one block.
+pub fn small_tree(automaton: &Automaton, _: usize, random: &mut Random) -> Vec<u8> {
+    let branches = random.from_to(2, 29);
+    tree::write(&shapes::tree(automaton, Shape::Random, branches, tree::MOST_HEIGHT, random))
 }
 
 /// An automaton with no rules, whose first `branches` symbols are the branch symbols.
@@ -113,6 +137,48 @@ fn traversal(random: &mut Random) -> Automaton {
     automaton
 }
 
+/// A traversal as above that takes its count through a permutation of each symbol, where the other adds.
+fn permutations(random: &mut Random) -> Automaton {
+    let mut automaton = traversal(random);
+    for symbol in 0..automaton.symbols as u8 {
+        let (step, order) = (if automaton.is_branch(symbol) { LEFT } else { UP }, random.shuffled(8));
+        for rule in automaton.rules.iter_mut().filter(|rule| rule.symbol == symbol && rule.step == step) {
+            rule.next = rule.next / 8 * 8 + order[usize::from(rule.state % 8)] as u8;
+        }
+    }
+    automaton
+}
+
+/// Goes down the left in twelve states, which each branch symbol permutes, and back up in twelve others; at the root some go right then.
+fn spines(random: &mut Random) -> Automaton {
+    let half = MOST_STATES / 2;
+    let mut automaton = blank(14, 10);
+    automaton.accepting = 0xaaa000;
+    for symbol in 0..automaton.symbols {
+        let order = random.shuffled(half);
+        for (state, &next) in order.iter().enumerate() {
+            let back = half + state;
+            if automaton.is_branch(symbol as u8) {
+                automaton.rules.push(rule(symbol, state, EVERY_PLACE, LEFT, next));
+                automaton.rules.push(rule(symbol, back, 1, UP, back));
+                if state % 3 == 0 {
+                    automaton.rules.push(rule(symbol, back, 0, RIGHT, next));
+                    automaton.rules.push(rule(symbol, back, 2, UP, back));
+                }
+            } else {
+                automaton.rules.push(rule(symbol, state, 1, UP, half + next));
+                automaton.rules.push(rule(symbol, state, 2, UP, half + next));
+            }
+        }
+    }
+    automaton
+}
+
+/// One transition for every symbol, place and state, as the deterministic family has for most, over fewer symbols.
+fn complete(random: &mut Random) -> Automaton {
+    one_each(blank(7, 4), random)
+}
+
 /// Two symbols, so that several transitions share each cell. The states are two halves with no way from one to the
 /// other, and the accepting state is in either.
 fn dense(random: &mut Random) -> Automaton {
@@ -165,9 +231,12 @@ fn long_chains(random: &mut Random) -> Automaton {
 
 /// At most one transition for each symbol, place and state. Odd states are accepting.
 fn deterministic(random: &mut Random) -> Automaton {
-    let mut automaton = blank(8, 4);
+    one_each(blank(8, 4), random)
+}
+
+fn one_each(mut automaton: Automaton, random: &mut Random) -> Automaton {
     automaton.accepting = 0xaaaaaa;
-    let cells = random.shuffled(8 * 3 * MOST_STATES);
+    let cells = random.shuffled(automaton.symbols * 3 * MOST_STATES);
     for cell in cells.into_iter().take(MOST_RULES) {
         let (symbol, place, state) = (cell / MOST_STATES / 3, (cell / MOST_STATES % 3) as u8, cell % MOST_STATES);
         let one = one_rule(&automaton, random, |random| {

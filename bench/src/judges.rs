@@ -1,24 +1,29 @@
-//! All implementations side by side.
+//! All implementations side by side. A further way to judge a batch, of the engine or in Rust, is one more place in `NAMES` and `TALLIES`, and
+//! in `prepare_all` where it judges trees one by one; all comparisons and tables of judging go over these.
 #[cfg(feature = "engine")]
 use crate::engine::{self, Engine};
 use crate::{
     batch::{self, Tally},
     configurations::Configurations,
+    lazy::Lazy,
     plain::Plain,
     tables::Tables,
     Judge, Refusal, Verdict,
 };
 
 #[cfg(feature = "engine")]
-pub const NAMES: [&str; 4] = ["engine", "Rust tables", "Rust plain", "Rust configurations"];
+pub const NAMES: [&str; 5] = ["engine", "Rust tables", "Rust plain", "Rust configurations", "Rust lazy"];
 #[cfg(not(feature = "engine"))]
-pub const NAMES: [&str; 3] = ["Rust tables", "Rust plain", "Rust configurations"];
+pub const NAMES: [&str; 4] = ["Rust tables", "Rust plain", "Rust configurations", "Rust lazy"];
 
 pub const COUNT: usize = NAMES.len();
 
-/// The engine's place among the names, where it is linked, and those of the two forms of its algorithm in Rust.
+/// The engine's place among the names, where it is linked, and those of the implementations in Rust.
 pub const ENGINE: Option<usize> = if cfg!(feature = "engine") { Some(0) } else { None };
-pub const SAME: [usize; 2] = [COUNT - 3, COUNT - 2];
+pub const TABLES: usize = COUNT - 4;
+pub const PLAIN: usize = COUNT - 3;
+pub const CONFIGURATIONS: usize = COUNT - 2;
+pub const LAZY: usize = COUNT - 1;
 
 /// The tally of an automaton's file on trees' files end to end: the automaton is prepared once.
 pub type TallyOf = fn(&[u8], &[u8]) -> Result<Tally, Refusal>;
@@ -30,6 +35,7 @@ pub const TALLIES: [TallyOf; COUNT] = [
     |automaton, trees| Ok(batch::tally(&Tables::prepare(automaton)?, trees)),
     |automaton, trees| Ok(batch::tally(&Plain::prepare(automaton)?, trees)),
     |automaton, trees| Ok(batch::tally(&Configurations::prepare(automaton)?, trees)),
+    |automaton, trees| Ok(batch::tally(&Lazy::prepare(automaton)?, trees)),
 ];
 
 /// One automaton, prepared by each implementation, in the order of their names.
@@ -48,6 +54,7 @@ fn prepare_all(file: &[u8]) -> [Prepared; COUNT] {
         boxed(Tables::prepare(file)),
         boxed(Plain::prepare(file)),
         boxed(Configurations::prepare(file)),
+        boxed(Lazy::prepare(file)),
     ]
 }
 

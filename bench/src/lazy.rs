@@ -106,7 +106,7 @@ impl Cache {
         };
         for symbol in (0..alphabet.symbols).filter(|&symbol| !alphabet.is_branch(symbol as u8)) {
             let overloops = [LEFT_PART, RIGHT_PART].map(|place| tables.leaf(symbol, place));
-            cache.leaves[symbol] = cache.class(overloops).unwrap_or(0);
+            cache.leaves[symbol] = cache.class(overloops).expect("there is room for the leaves");
         }
         cache
     }

@@ -1,11 +1,13 @@
 //! Judging, the survey, the quick check, single, the one form and the percent in Rust, written from documents 01 and 02 alone; and the measuring
 //! of judging, the survey, single, the one form and reading: the engine beside these. One call takes the bytes of an automaton's file and of
 //! trees' files end to end, and gives the tally; or the bytes of an automaton's file, and gives the survey's verdict and plan, or the file in
-//! its one form; or the bytes of a tree's file, and gives the block whose check is wrong, or the nodes.
+//! its one form; or the bytes of a tree's file, and gives the block whose check is wrong, or the nodes. `stream` measures whole programs.
 pub mod agreement;
 pub mod automaton;
 pub mod batch;
+mod batches;
 pub mod blocks;
+mod calls;
 pub mod canonical;
 pub mod compare;
 #[cfg(feature = "engine")]
@@ -17,6 +19,7 @@ pub mod families;
 #[cfg(feature = "engine")]
 mod forms;
 mod judges;
+pub mod lazy;
 pub mod logs;
 pub mod markup;
 mod measure;
@@ -31,6 +34,7 @@ mod report;
 pub mod shapes;
 #[cfg(feature = "engine")]
 mod singles;
+pub mod stream;
 pub mod survey;
 #[cfg(feature = "engine")]
 mod surveys;
@@ -95,7 +99,8 @@ pub fn run() -> Result<(), String> {
         "all agree on small inputs: {} trees accepted, {} other, {} refused; {} automata refused",
         counts.accepted, counts.other, counts.refused, counts.automata_refused
     );
-    report::print(&measure::measure()?);
+    batches::run()?;
+    calls::run()?;
     #[cfg(feature = "engine")]
     surveys::run()?;
     #[cfg(feature = "engine")]

@@ -5,7 +5,7 @@ use crate::{
     blocks::{self, BLOCK},
     engine,
     families::{Family, BRANCHES},
-    judges::{TallyOf, SAME, TALLIES},
+    judges::{TallyOf, TABLES, TALLIES},
     parts,
     random::Random,
     shapes::{self, SHAPES},
@@ -155,7 +155,7 @@ fn time_judging(automaton: &[u8], trees: &[u8]) -> Result<[f64; 2], String> {
         let found = black_box(tally(black_box(automaton), black_box(trees)));
         (nanos_a_tree(begin), found)
     };
-    let [(engine, found), (rust, expected)] = [engine::tally, TALLIES[SAME[0]]].map(time);
+    let [(engine, found), (rust, expected)] = [engine::tally, TALLIES[TABLES]].map(time);
     if found != expected {
         return Err(format!("the tallies of {TREES} trees differ: {found:?} and {expected:?}"));
     }

@@ -2,7 +2,7 @@
 use crate::{automaton::Automaton, blocks, refused, Refusal};
 
 pub const MOST_HEIGHT: usize = 64;
-const MOST_BYTES: usize = 4608;
+pub const MOST_BYTES: usize = 4608;
 pub const MOST_NODES: usize = 4096;
 const KIND: u8 = 84;
 

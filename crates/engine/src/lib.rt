@@ -39,7 +39,7 @@ pub fn judge(automaton: &[u8], tree: &[u8]) -> Answer
     ensures equals { λ r. ⌜ r ≡ judged (now (automaton .entry)) (now (tree .entry)) ⌝ }
     ensures right { λ r. ⌜ Demand2 (now (automaton .entry)) (now (tree .entry)) r ⌝ }
 {
-    membership::judge(automaton, tree)
+    judging::judge(automaton, tree)
 }
 
 // Looks for a tree that an automaton's file accepts: where one is found, a plan that builds it goes to the front of the buffer.

@@ -45,7 +45,7 @@ pub fn report_bytes(automaton: &[u8], trees: &[u8], out: &mut [u8; 357]) -> usiz
                 other: 0,
                 refused: 0,
             };
-            let tally = batch::tally_all(none, header, &table, &leaves, trees);
+            let tally = batch::tally_all(none, header, &table, trees);
             let end = put_read(out, header, &table, &leaves);
             wording::put_tally(out, end, tally)
         }

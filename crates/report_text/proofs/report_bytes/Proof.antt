@@ -35,10 +35,10 @@ enum-known-header : tie.Need-enum-known-header
 enum-known-header c = search needs
 
 tally-all-requires : tie.Need-tally-all-requires
-tally-all-requires c κs = ready (c .before .before) .0
+tally-all-requires c κs = ready (c .before) .0
 
 put-read-requires : tie.Need-put-read-requires
-put-read-requires c κs = (search needs, ready (c .before .before .before .before .before .before) .0)
+put-read-requires c κs = (search needs, ready (c .before .before .before .before .before) .0)
 
 put-tally-requires : tie.Need-put-tally-requires
 put-tally-requires c κs = search needs
@@ -48,9 +48,9 @@ returns c = told-as (c .put-refused .ensures .0) (report-refused _ _ _ (sym (c .
 
 returns-2 : tie.Need-returns-2
 returns-2 c =
-    let told = c .before .before .before .before .before .before .before .before .before in
+    let told = c .before .before .before .before .before .before .before .before in
     let head = c .before .before .put-read .ensures .0 _ (ready told .1) in
-    told-as (then head (c .put-tally .ensures .0)) (report-read _ _ (read-is told) _ _ (c .before .before .before .before .before .before .tally-all .ensures _ (ready told .1)))
+    told-as (then head (c .put-tally .ensures .0)) (report-read _ _ (read-is told) _ _ (c .before .before .before .before .before .before .tally-all .ensures _ (ready told .1 .headed)))
 
 pub report-bytes-spec : {M : Type 1} → statement M
 report-bytes-spec =
