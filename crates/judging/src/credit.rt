@@ -1,5 +1,5 @@
-// What new classes a tree may bring. Each tree adds to a credit, and each new class takes from it: where trees keep bringing new ones, a cache
-// costs more than it saves, and rests until there is credit again.
+// What new classes a tree may bring. Trees add to a credit, those that are judged by the cache most, and each new class takes from it: where trees
+// keep bringing new ones, a cache costs more than it saves, and rests until there is credit again.
 use determinization::Cells;
 use determinization::Counts;
 use determinization::IndexMaps;
@@ -10,36 +10,48 @@ ghost use lib.ListN.{length, getD};
 ghost use Rattle.algorithms.specs.Automaton.{Automaton};
 ghost use Rattle.determinization.specs.Cache.{CachedIn, Kept};
 
-// Whether the cache is asked for the next tree, which may then bring as many classes as there is credit for.
-pub fn begin(counts: &mut Counts) -> bool
+// The blocks of a file, by which its credit goes.
+pub fn blocks_in(file: &[u8]) -> u32
+    ensures { λ r. ⌜ r < 16 ⌝ }
+{
+    (file.len() / 512 % 16) as u32
+}
+
+// Whether the cache is asked for the next tree, which may then bring as many classes as there is credit for, four for each. While it rests, a tree
+// adds one for each of its blocks.
+pub fn begin(counts: &mut Counts, blocks: u32) -> bool
+    requires { ⌜ blocks < 16 ⌝ }
     ensures { λ _. ⌜ Kept (now (counts .entry)) (now (counts .exit)) ⌝ }
 {
-    let credit = counts[4] % 2048;
-    if credit < 64 {
-        counts[4] = credit + 4;
+    let credit = counts[4] % 8192;
+    if credit < 256 {
+        counts[4] = credit + blocks;
         return false;
     }
-    counts[3] = counts[0] % 2048 + credit;
+    counts[3] = counts[0] % 2048 + credit / 4;
     true
 }
 
-// What is left of the credit after a tree, and what the tree adds.
-fn left(most: u32, classes: u32) -> u32 {
+// What is left of the credit after a tree, with what the tree adds.
+fn credit_after(most: u32, classes: u32, gain: u32) -> u32
+    requires { ⌜ gain < 128 ⌝ }
+{
     if most <= classes {
-        return 4;
+        return gain;
     }
-    let rest = most - classes;
-    if 1020 < rest {
-        return 1024;
+    let left = most - classes;
+    if 1000 < left {
+        return 4096;
     }
-    rest + 4
+    4 * left + gain
 }
 
 // Takes the classes that a tree brought from the credit.
-pub fn end(counts: &mut Counts)
+pub fn end(counts: &mut Counts, gain: u32)
+    requires { ⌜ gain < 128 ⌝ }
     ensures { λ _. ⌜ Kept (now (counts .entry)) (now (counts .exit)) ⌝ }
 {
-    counts[4] = left(counts[3], counts[0]);
+    counts[4] = credit_after(counts[3], counts[0], gain);
 }
 
 fn clear_maps(maps: &mut [u16])
@@ -75,7 +87,7 @@ pub fn renew(counts: &mut Counts, maps: &mut IndexMaps, cells: &mut Cells)
     counts[0] = 1;
     counts[1] = 1;
     counts[2] = 1;
-    counts[4] = 256;
+    counts[4] = 1024;
     clear_maps(maps);
     clear_cells(cells);
 }

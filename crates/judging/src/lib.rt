@@ -3,6 +3,7 @@
 pub mod credit;
 
 use crate::credit::begin;
+use crate::credit::blocks_in;
 use crate::credit::end;
 use crate::credit::renew;
 use automaton::Header;
@@ -111,15 +112,21 @@ pub fn judge_with(
         → CachedIn A (now (counts .entry)) (now (store .entry)) (now (maps .entry)) (now (cells .entry))
         → CachedIn A (now (counts .exit)) (now (store .exit)) (now (maps .exit)) (now (cells .exit)) × (r ≡ judgedBy A (now (file .entry)))) ⌝ }
 {
-    if !begin(counts) {
+    let blocks = blocks_in(file);
+    if !begin(counts, blocks) {
         return judge_file(header, table, file);
     }
-    let verdict = by_classes(header, table, file, counts, store, maps, cells, hints);
-    end(counts);
-    match verdict {
-        Verdict::Accepted => Answer::Accepted,
-        Verdict::Other => Answer::Other,
+    match by_classes(header, table, file, counts, store, maps, cells, hints) {
+        Verdict::Accepted => {
+            end(counts, 8 * blocks);
+            Answer::Accepted
+        }
+        Verdict::Other => {
+            end(counts, 8 * blocks);
+            Answer::Other
+        }
         Verdict::Unknown => {
+            end(counts, blocks);
             renew(counts, maps, cells);
             judge_file(header, table, file)
         }

@@ -6,14 +6,14 @@ use borrow.Author.Needs.{needs}
 use Rattle.judging.proofs.credit.end.Statement.{statement}
 use Rattle.judging.proofs.credit.end.Tie as tie
 
-element-copy-out-left : tie.Need-element-copy-out-left
-element-copy-out-left c = search needs
+element-copy-out-credit-after : tie.Need-element-copy-out-credit-after
+element-copy-out-credit-after c = search needs
 
-element-copy-out-left-2 : tie.Need-element-copy-out-left-2
-element-copy-out-left-2 c = search needs
+element-copy-out-credit-after-2 : tie.Need-element-copy-out-credit-after-2
+element-copy-out-credit-after-2 c = search needs
 
-left-requires : tie.Need-left-requires
-left-requires c κs = search needs
+credit-after-requires : tie.Need-credit-after-requires
+credit-after-requires c κs = search needs
 
 element-write-counts : tie.Need-element-write-counts
 element-write-counts c = search needs
@@ -25,8 +25,8 @@ pub end-spec : {M : Type 1} → statement M
 end-spec =
     tie.close
     (tie.spec
-    element-copy-out-left
-    element-copy-out-left-2
-    left-requires
+    element-copy-out-credit-after
+    element-copy-out-credit-after-2
+    credit-after-requires
     element-write-counts
     returns)

@@ -30,7 +30,7 @@ clear-cells-requires : tie.Need-clear-cells-requires
 clear-cells-requires c κs = search needs
 
 returns-2 : tie.Need-returns-2
-returns-2 c = λ A store k. renewed A _ store _ _ _ _ 256 k (c .before .before .clear-maps .ensures) (c .clear-cells .ensures)
+returns-2 c = λ A store k. renewed A _ store _ _ _ _ 1024 k (c .before .before .clear-maps .ensures) (c .clear-cells .ensures)
 
 pub renew-spec : {M : Type 1} → statement M
 renew-spec =
