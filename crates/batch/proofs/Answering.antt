@@ -1,26 +1,19 @@
 -- The answers of a batch: one file more; and the tally of a batch is its answers, each counted in turn.
 -- Assumes nothing.
-use Prim.Native.Nat.{ℕ, zero, suc, _+_, _*_, _<_, _≤_}
+use Prim.Native.Nat.{ℕ, zero, suc, _*_, _<_, _≤_}
 use native.Mathlib.Omega.{arith}
-use mathlib.Core.Path.{_≡_, refl, sym, ap, _∙_}
-use mathlib.Core.Bool.{Bool, true, false, not, _||_, _&&_}
-use mathlib.Core.List.{List, [], _∷_, _++_, append-assoc, append-nil}
-use borrow.Author.Tests.{eq-eqb, ne-eqb, lt-ltb, le-ltb, ltb-false}
+use mathlib.Core.Path.{_≡_, refl, ap, _∙_}
+use mathlib.Core.Bool.{Bool, true, false, not, _||_}
+use mathlib.Core.List.{List, _∷_, _++_}
+use borrow.Author.Tests.{ne-eqb, le-ltb, ltb-false}
 use lib.Dec.{eqb, ltb}
-use lib.ListN.{length, take, drop, length-append, length-drop}
+use lib.ListN.{length, take, drop, length-append}
 use lib.Seq.{take-append-le, drop-append-le}
-use Rattle.refusal.specs.declared.Check.{Check}
-use Rattle.refusal.specs.declared.Refusal.{Refusal}
 use Rattle.algorithms.specs.Automaton.{Automaton}
-use Rattle.membership.specs.Judged.{judgedBy}
 use Rattle.membership.specs.declared.Answer.{Answer}
-use Rattle.tally.specs.Tally.{countedUp, limitCheck}
-use Rattle.tally.specs.declared.Tally.{Tally}
-use Rattle.tally.specs.declared.Outcome.{Outcome}
-use Rattle.batch.specs.Batch.{fileBlocks, firstLength, restOf, outcomeOf, endsBatch, judgedTurn, turnBy, turnOf, passes, taken, nextIn, goingOn, batchOf}
-use Rattle.batch.specs.declared.Turn.{Turn}
-use Rattle.batch.specs.Answers.{answersBy, firstAnswer, lastAnswer, answersWithin, answersOf, countedAnswers, laterIf}
-use Rattle.batch.proofs.Laws.{some-block, rest-shorter, batch-next}
+use Rattle.batch.specs.Batch.{fileBlocks, firstLength, restOf, endsBatch}
+use Rattle.batch.specs.Answers.{answersBy, firstAnswer, lastAnswer, answersWithin, answersOf, laterIf}
+use Rattle.batch.proofs.Laws.{some-block, rest-shorter}
 
 -- what comes later counts only where there are more
 by-more : (none last : Bool) (a : Answer) (x y : List Answer) → (none ≡ false → last ≡ false → x ≡ y) → answersBy none last a x ≡ answersBy none last a y

@@ -1,6 +1,6 @@
 -- The tally of a batch is its answers, each counted in turn; and so it is of a part of it.
 -- Assumes nothing.
-use Prim.Native.Nat.{ℕ, zero, suc, _+_, _*_, _<_, _≤_}
+use Prim.Native.Nat.{ℕ, zero, suc, _*_, _<_}
 use native.Mathlib.Omega.{arith}
 use mathlib.Core.Path.{_≡_, refl, sym, ap, _∙_}
 use mathlib.Core.Bool.{Bool, true, false, not, _||_, _&&_, cond}
@@ -22,7 +22,7 @@ use Rattle.tally.specs.declared.Tally.{Tally}
 use Rattle.tally.specs.declared.Outcome.{Outcome}
 use Rattle.counting.specs.Counting.{countedAll}
 use Rattle.batch.specs.Batch.{firstLength, restOf, restCounted, outcomeOf, endsBatch, turnBy, turnOf, passes, taken, nextIn, goingOn, batchOf}
-use Rattle.batch.specs.Answers.{answersBy, firstAnswer, lastAnswer, answersOf, countedAnswers, answerNumbers, allNumbers, laterIf, Part}
+use Rattle.batch.specs.Answers.{answersBy, firstAnswer, lastAnswer, answersOf, countedAnswers, allNumbers, laterIf, Part}
 use Rattle.batch.specs.declared.part.Judged.{Judged}
 use Rattle.batch.proofs.Laws.{some-block, batch-next}
 use Rattle.batch.proofs.Lengths.{file-length}

@@ -1,13 +1,12 @@
 -- Laws of the number of blocks of a file, of the first file, and of the batch. Assumes nothing.
 use Prim.Native.Nat.{ℕ, zero, suc, _+_, _*_, _/_, _≤_, _<_}
-use mathlib.Core.Path.{_≡_, refl, sym, ap, _∙_}
+use mathlib.Core.Path.{_≡_, refl}
 use mathlib.Core.Bool.{Bool, true, false, cond, _&&_}
 use mathlib.Core.List.{List}
 use native.Mathlib.Omega.{arith}
 use borrow.Author.Tests.{ltb-false, eq-eqb, ne-eqb, lt-ltb, le-ltb, le-leb, lt-leb}
 use lib.Dec.{eqb, ltb, leb}
-use lib.ListN.{length, take, drop, length-drop, drop-of-length-le}
-use lib.Seq.{drop-drop, drop-length}
+use lib.ListN.{length, take, length-drop}
 use Rattle.blocks.specs.Blocks.{halfAt, content}
 use Rattle.refusal.specs.declared.Check.{Check}
 use Rattle.refusal.specs.declared.Refusal.{Refusal}
@@ -21,10 +20,8 @@ use Rattle.membership.specs.Judged.{judgedBy}
 use Rattle.membership.specs.declared.Answer.{Answer}
 use Rattle.tally.specs.Tally.{countedUp}
 use Rattle.tally.specs.declared.Tally.{Tally}
-use Rattle.tally.specs.declared.Tallied.{Tallied}
 use Rattle.tally.specs.declared.Outcome.{Outcome}
-use Rattle.batch.specs.Batch.{blocksOf, fileBlocks, firstLength, judgedTurn, cutOff, turnBy, turnOf, passes, taken, nextIn, restOf, goingOn, batchWithin, batchOf, talliedOf}
-use Rattle.batch.specs.declared.Turn.{Turn}
+use Rattle.batch.specs.Batch.{blocksOf, fileBlocks, firstLength, judgedTurn, cutOff, turnBy, End, turnOf, passes, taken, nextIn, restOf, goingOn, batchWithin, batchOf, talliedOf}
 
 -- ---- the length of a file
 
@@ -54,20 +51,10 @@ some-block s = some-blocks (leb 4 (length s) && leb (halfAt s 2) 4096) (halfAt s
 pub told-length : (s f : List ℕ) (b : ℕ) → f ≡ take 512 s → b ≡ fileBlocks f → 512 * b ≡ firstLength s
 told-length s f b e g = rw (g, e) refl
 
--- the place after the file at a place, within the bytes
-module _ (s : List ℕ) (at : ℕ) (n : ℕ) (tells : n ≡ firstLength (drop at s)) where
-  pub place-last : length (drop at s) < n → drop (length s) s ≡ restOf (drop at s)
-  place-last l =
-      let short : length (drop at s) ≤ firstLength (drop at s) = omega (arith, tells) in
-      drop-length s ∙ sym (drop-of-length-le (drop at s) short)
-
-  pub place-next : drop (at + n) s ≡ restOf (drop at s)
-  place-next = ap (λ (k : ℕ). drop (at + k) s) tells ∙ sym (drop-drop (firstLength (drop at s)) at s)
-
 -- ---- the first file
 
 module _ (A : Automaton) (s : List ℕ) where
-  pub turn-none : length s ≡ 0 → Turn.End ≡ turnOf A s
+  pub turn-none : length s ≡ 0 → End ≡ turnOf A s
   unfolding turnOf
   turn-none e = rw (eq-eqb (length s) 0 e) refl
 
@@ -78,12 +65,6 @@ module _ (A : Automaton) (s : List ℕ) where
   pub turn-whole : (length s ≡ 0 → ⊥) → firstLength s ≤ length s → judgedTurn (judgedBy A (take (firstLength s) s)) ≡ turnOf A s
   unfolding turnOf
   turn-whole e l = rw (ne-eqb (length s) 0 e, le-ltb (length s) (firstLength s) l) refl
-
-pub turn-judged : (A : Automaton) (s : List ℕ) (r : Turn) (a : Answer) (end : ℕ) → (length s ≡ 0 → ⊥) → end ≡ firstLength s → end ≤ length s
-    → a ≡ judgedBy A (take end s) → r ≡ judgedTurn a → r ≡ turnOf A s
-turn-judged A s r a end e f l g k =
-    let room : firstLength s ≤ length s = omega arith in
-    k ∙ ap judgedTurn (g ∙ ap (λ (m : ℕ). judgedBy A (take m s)) f) ∙ turn-whole A s e room
 
 -- a batch that goes on has read a whole file
 and-none : (b : Bool) → (b && false) ≡ false
@@ -122,38 +103,6 @@ unfolding batchWithin batchOf
 batch-next A t s =
     goes-by (nextIn A t s .more) (nextIn A t s .tally) _ _
     (λ e. let shorter = rest-shorter s (more-whole A t s e) in enough (length s) (suc (length (restOf s))) A (nextIn A t s .tally) (restOf s) (omega arith) (omega arith))
-
-pub batch-stops : (A : Automaton) (t : Tally) (s : List ℕ) → nextIn A t s .more ≡ false → nextIn A t s .tally ≡ batchOf A t s
-batch-stops A t s e = sym (batch-next A t s ∙ rw e refl)
-
--- ---- the batch in a loop
-
--- what the batch comes to where the next turn is known, and what follows it
-abbrev pub carried : Automaton → Tally → Turn → (rest : List ℕ) → Tally
-carried A t turn rest = goingOn (taken t turn) (batchOf A (taken t turn .tally) rest)
-
-pub batch-carried : (A : Automaton) (t : Tally) (s : List ℕ) (turn : Turn) → turn ≡ turnOf A s → batchOf A t s ≡ carried A t turn (restOf s)
-unfolding nextIn
-batch-carried A t s turn e = batch-next A t s ∙ rw e refl
-
--- one file more: t′ and c are what counting it tells
-carried-by : (A : Automaton) (on : Bool) (t′ : Tally) (s : List ℕ) → cond on (batchOf A t′ s) t′ ≡ carried A t′ (cond on (turnOf A s) Turn.End) (restOf s)
-carried-by A true t′ s = batch-carried A t′ s (turnOf A s) refl
-carried-by A false t′ s = refl
-
-pub carried-on : (A : Automaton) (t : Tally) (o : Outcome) (more : Bool) (rest : List ℕ) (turn : Turn)
-    → turn ≡ cond (passes (countedUp t o .check) && more) (turnOf A rest) Turn.End
-    → carried A t (Turn.File o more) rest ≡ carried A (countedUp t o .tally) turn (restOf rest)
-carried-on A t o more rest turn e =
-    carried-by A (passes (countedUp t o .check) && more) (countedUp t o .tally) rest ∙ ap (λ (x : Turn). carried A (countedUp t o .tally) x (restOf rest)) (sym e)
-
--- a turn of the loop: what counting told, and the turn at the next place
-pub turn-on : (A : Automaton) (t : Tally) (o : Outcome) (more : Bool) (s : List ℕ) (at at′ : ℕ) (turn : Turn) (counted : Tallied)
-    → counted ≡ countedUp t o → drop at′ s ≡ restOf (drop at s) → turn ≡ cond (passes (counted .check) && more) (turnOf A (drop at′ s)) Turn.End
-    → carried A t (Turn.File o more) (restOf (drop at s)) ≡ carried A (counted .tally) turn (restOf (drop at′ s))
-turn-on A t o more s at at′ turn counted c place is =
-    let is′ : turn ≡ cond (passes (countedUp t o .check) && more) (turnOf A (restOf (drop at s))) Turn.End = is ∙ rw (c, place) refl in
-    carried-on A t o more (restOf (drop at s)) turn is′ ∙ rw (c, place) refl
 
 -- ---- over an automaton's file
 

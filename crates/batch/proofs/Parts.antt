@@ -1,18 +1,17 @@
 -- Answers written one after another: three numbers stored, and a file more.
 -- Assumes nothing.
-use Prim.Native.Nat.{ℕ, suc, _+_, _*_, _<_, _≤_}
+use Prim.Native.Nat.{ℕ, suc, _+_, _*_, _≤_}
 use native.Mathlib.Omega.{arith}
 use mathlib.Core.Path.{_≡_, refl, sym, ap, _∙_}
-use mathlib.Core.Bool.{Bool, true, false, not}
+use mathlib.Core.Bool.{Bool, true, not}
 use mathlib.Core.List.{List, [], _∷_, _++_, append-assoc}
 use lib.ListN.{length, getD, set, take, drop, length-append, length-drop}
-use lib.Seq.{sets, sets-eq, take-at, drop-at, drop-drop, drop-append-le, drop-length}
+use lib.Seq.{sets, sets-eq, take-at, drop-at, drop-drop}
 use Rattle.algorithms.specs.Automaton.{Automaton}
 use Rattle.membership.specs.Judged.{judgedBy}
 use Rattle.membership.specs.declared.Answer.{Answer}
 use Rattle.batch.specs.Batch.{firstLength, restOf, endsBatch}
 use Rattle.batch.specs.Answers.{firstAnswer, answersOf, answerNumbers, allNumbers, laterIf, Part}
-use Rattle.batch.specs.declared.part.Judged.{Judged}
 use Rattle.batch.proofs.Answering.{answers-file}
 
 -- three stores, one after another

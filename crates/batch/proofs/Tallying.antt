@@ -4,9 +4,9 @@ use Prim.Native.Nat.{ℕ, _+_, _*_, _<_, _≤_}
 use native.Mathlib.Omega.{arith}
 use mathlib.Core.Path.{_≡_, refl, sym, ap, _∙_}
 use mathlib.Core.Bool.{Bool, true, false}
-use mathlib.Core.List.{List, [], _++_, append-nil}
-use mathlib.Core.Logic.{_⊎_, inl, inr}
-use lib.ListN.{length, take, drop, set, replicate, length-drop}
+use mathlib.Core.List.{List, [], append-nil}
+use mathlib.Core.Logic.{inl, inr}
+use lib.ListN.{length, take, drop, set, replicate}
 use lib.Seq.{drop-drop}
 use Rattle.model.specs.declared.Side.{Side}
 use Rattle.algorithms.specs.Automaton.{Automaton}

@@ -1,9 +1,9 @@
 -- The answers of a batch, file by file; the tally of a batch is these, each counted in turn (`Counted.batch-answers`). And how they are written,
 -- three numbers each.
 -- Interface: `answersOf`, `countedAnswers`, `answerNumbers`, `allNumbers`, `Part`, `judgedAll`.
-use Prim.Native.Nat.{ℕ, zero, suc, _+_, _*_, _<_, _≤_}
+use Prim.Native.Nat.{ℕ, zero, suc, _+_, _*_, _<_}
 use mathlib.Core.Path.{_≡_}
-use mathlib.Core.Bool.{Bool, true, false, _||_, cond}
+use mathlib.Core.Bool.{Bool, true, false, _||_}
 use mathlib.Core.List.{List, [], _∷_, _++_}
 use mathlib.Core.Logic.{_⊎_}
 use lib.Dec.{eqb, ltb}

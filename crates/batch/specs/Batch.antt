@@ -17,7 +17,6 @@ use Rattle.tally.specs.Tally.{countedUp}
 use Rattle.tally.specs.declared.Tally.{Tally}
 use Rattle.tally.specs.declared.Tallied.{Tallied}
 use Rattle.tally.specs.declared.Outcome.{Outcome}
-use Rattle.batch.specs.declared.Turn.{Turn}
 
 -- ---- the length of a file
 
@@ -50,28 +49,28 @@ endsBatch Answer.Accepted = false
 endsBatch Answer.Other = false
 endsBatch (Answer.Refused r) = leb (r .number) 4
 
+-- what a batch has next: nothing, as there is no input left; or a file, by its outcome and whether the batch goes on after it
+pub data Turn : Type 0 where
+  End : Turn
+  File : Outcome → Bool → Turn
+
 -- a file that was judged: its outcome, and whether the batch goes on after it
 abbrev pub judgedTurn : Answer → Turn
-judgedTurn a = Turn.File (outcomeOf a) (not (endsBatch a))
+judgedTurn a = File (outcomeOf a) (not (endsBatch a))
 
 -- "input that stops inside a letter, counts one refused and ends the batch"
 abbrev pub cutOff : Turn
-cutOff = Turn.File Outcome.Refused false
+cutOff = File Outcome.Refused false
 
 -- no input is left; or it stops inside a file; or a whole file is there
 abbrev pub turnBy : (none stops : Bool) → Answer → Turn
-turnBy true stops a = Turn.End
+turnBy true stops a = End
 turnBy false true a = cutOff
 turnBy false false a = judgedTurn a
 
 -- what the first file of s comes to, by an automaton
 unfoldable pub turnOf : Automaton → (s : List ℕ) → Turn
 turnOf A s = turnBy (eqb (length s) 0) (ltb (length s) (firstLength s)) (judgedBy A (take (firstLength s) s))
-
--- there is a file
-abbrev pub IsFile : Turn → Type 0
-IsFile Turn.End = ⊥
-IsFile (Turn.File o more) = Unit {0}
 
 -- ---- the tally after it
 
@@ -86,8 +85,8 @@ passes Check.Passed = true
 passes (Check.Refused r) = false
 
 abbrev pub taken : Tally → Turn → Next
-taken t Turn.End = record { tally = t; more = false }
-taken t (Turn.File o more) = record { tally = countedUp t o .tally; more = passes (countedUp t o .check) && more }
+taken t End = record { tally = t; more = false }
+taken t (File o more) = record { tally = countedUp t o .tally; more = passes (countedUp t o .check) && more }
 
 unfoldable pub nextIn : Automaton → Tally → (s : List ℕ) → Next
 nextIn A t s = taken t (turnOf A s)

@@ -1,4 +1,3 @@
--- The definitions of a batch, of a list of bytes and in turns.
+-- The definitions of a batch, of a list of bytes, and its answers.
 pub mod Batch
 pub mod Answers
-pub mod Turns

@@ -6,28 +6,16 @@ use crate::part::judge_part;
 use automaton::Header;
 use counting::count_all;
 use membership::Answer;
-use membership::judge_file;
-use overloops::LeafTable;
-use refusal::Check;
 use tally::Outcome;
 use tally::Tally;
-use tally::count;
 use transitions::TransitionTable;
 ghost use mathlib.Core.Path.{_≡_};
-ghost use mathlib.Core.Bool.{cond, _&&_};
 ghost use Prim.Native.Nat.{_<_, _≤_};
 ghost use lib.ListN.{length, drop};
 ghost use Rattle.algorithms.specs.Automaton.{Automaton};
 ghost use Rattle.automaton.specs.File.{WithinLimits};
-ghost use Rattle.overloops.specs.Ready.{Headed, Ready};
-ghost use Rattle.batch.specs.Batch.{fileBlocks, firstLength, outcomeOf, endsBatch, judgedTurn, passes, turnOf, IsFile, restOf, restCounted, batchOf};
-ghost use Rattle.batch.specs.declared.Turn.{Turn};
-
-// What a batch has next: nothing, as there is no input left; or a file, by its outcome and whether the batch goes on after it.
-pub enum Turn {
-    End,
-    File(Outcome, bool),
-}
+ghost use Rattle.overloops.specs.Ready.{Headed};
+ghost use Rattle.batch.specs.Batch.{fileBlocks, firstLength, endsBatch, restCounted, batchOf};
 
 // The blocks of a file by its first block: as many as its nodes need, or one where their number is outside its limits.
 fn file_blocks(first: &[u8]) -> usize
@@ -61,29 +49,6 @@ pub fn first_length(bytes: &[u8]) -> usize
     512 * file_blocks(blocks::front(bytes, 512))
 }
 
-// Where the file that begins at a place ends, within the bytes.
-fn place_after(bytes: &[u8], at: usize) -> usize
-    ensures { λ r. ⌜ (drop r (now (bytes .entry)) ≡ restOf (drop at (now (bytes .entry)))) × (r ≤ length (now (bytes .entry)))
-        × (at < length (now (bytes .entry)) → at < r) ⌝ }
-{
-    let rest = back(bytes, at);
-    let length = first_length(rest);
-    if rest.len() < length {
-        return bytes.len();
-    }
-    at + length
-}
-
-fn outcome_of(answer: Answer) -> Outcome
-    ensures { λ r. ⌜ r ≡ outcomeOf answer ⌝ }
-{
-    match answer {
-        Answer::Accepted => Outcome::Accepted,
-        Answer::Other => Outcome::Other,
-        Answer::Refused(_) => Outcome::Refused,
-    }
-}
-
 // Whether an answer ends the batch: by a refusal of lines 1 to 4 the length of the file is not known.
 fn ends_batch(answer: Answer) -> bool
     ensures { λ r. ⌜ r ≡ endsBatch answer ⌝ }
@@ -92,62 +57,6 @@ fn ends_batch(answer: Answer) -> bool
         Answer::Accepted => false,
         Answer::Other => false,
         Answer::Refused(refusal) => refusal.number <= 4,
-    }
-}
-
-// What a file that was judged comes to.
-fn judged_turn(answer: Answer) -> Turn
-    ensures { λ r. ⌜ r ≡ judgedTurn answer ⌝ }
-{
-    let last = ends_batch(answer);
-    Turn::File(outcome_of(answer), !last)
-}
-
-// What the first file comes to, by an automaton that was prepared.
-pub fn turn_in(header: Header, table: &TransitionTable, leaves: &LeafTable, bytes: &[u8]) -> Turn
-    requires { ⌜ WithinLimits header ⌝ }
-    ensures { λ r. ⌜ (IsFile r → 0 < length (now (bytes .entry)))
-        × ((A : Automaton) → Ready A header (now (table .entry)) (now (leaves .entry)) → r ≡ turnOf A (now (bytes .entry))) ⌝ }
-{
-    if bytes.len() == 0 {
-        return Turn::End;
-    }
-    let end = first_length(bytes);
-    if bytes.len() < end {
-        return Turn::File(Outcome::Refused, false);
-    }
-    judged_turn(judge_file(header, table, leaves, &bytes[..end]))
-}
-
-// Whether the batch goes on: the file was counted, and is not the last.
-pub fn goes_on(check: Check, more: bool) -> bool
-    ensures { λ r. ⌜ r ≡ (passes check && more) ⌝ }
-{
-    match check {
-        Check::Passed => more,
-        Check::Refused(_) => false,
-    }
-}
-
-// What the file at a place comes to, where the batch goes on.
-fn turn_after(
-    check: Check,
-    more: bool,
-    at: usize,
-    header: Header,
-    table: &TransitionTable,
-    leaves: &LeafTable,
-    bytes: &[u8],
-) -> Turn
-    requires { ⌜ WithinLimits header ⌝ }
-    ensures { λ r. ⌜ (IsFile r → at < length (now (bytes .entry)))
-        × ((A : Automaton) → Ready A header (now (table .entry)) (now (leaves .entry))
-        → r ≡ cond (passes check && more) (turnOf A (drop at (now (bytes .entry)))) Turn.End) ⌝ }
-{
-    if goes_on(check, more) {
-        turn_in(header, table, leaves, back(bytes, at))
-    } else {
-        Turn::End
     }
 }
 

@@ -4,7 +4,7 @@ use Prim.Native.Nat.{ℕ, suc, _+_, _-_, _<_, _≤_, max}
 use native.Mathlib.Numerals.{add-one}
 use native.Mathlib.Omega.{arith}
 use mathlib.Core.Path.{_≡_, refl, sym, ap, _∙_}
-use mathlib.Core.Bool.{Bool, true, false}
+use mathlib.Core.Bool.{true, false}
 use mathlib.Core.List.{List, [], _∷_, _++_, append-nil}
 use lib.ListN.{length, getD, drop, length-drop}
 use lib.Seq.{drop-length, drop-cons}
@@ -12,7 +12,6 @@ use Rattle.relation.specs.Sets.{member}
 use Rattle.model.specs.Trees.{Tree, leaf, node, height}
 use Rattle.model.specs.declared.Signature.{Signature}
 use Rattle.algorithms.specs.Automaton.{Automaton}
-use Rattle.algorithms.specs.Overloops.{accepts?}
 use Rattle.nodes.specs.Preorder.{preorder, Shaped, Below, Writes}
 use Rattle.nodes.proofs.Signatures.{over-shaped}
 use Rattle.determinization.specs.Cache.{idOf, classes, CachedIn}

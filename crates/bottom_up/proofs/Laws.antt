@@ -7,7 +7,7 @@ use mathlib.Core.Bool.{true, false}
 use mathlib.Core.List.{List, _∷_, _++_, append-assoc}
 use Rattle.relation.specs.Rows.{noPairs}
 use Rattle.relation.specs.Sets.{member}
-use Rattle.model.specs.Trees.{Tree, leaf, node, height}
+use Rattle.model.specs.Trees.{Tree, leaf, node}
 use Rattle.model.specs.declared.Side.{Side}
 use Rattle.model.specs.declared.Place.{Place}
 use Rattle.algorithms.specs.Automaton.{Automaton, Proper}

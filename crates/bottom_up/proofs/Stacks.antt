@@ -1,14 +1,13 @@
 -- The stack of words after a word more, and after a word in place of two.
 -- Assumes nothing.
-use Prim.Native.Nat.{ℕ, zero, suc, _+_, _-_, _%_, _≤_, _<_}
+use Prim.Native.Nat.{ℕ, suc, _+_, _-_, _%_, _<_}
 use native.Mathlib.Omega.{arith}
-use native.Mathlib.Numerals.{add-one, sub-one}
-use mathlib.Core.Path.{_≡_, refl, sym, ap, _∙_}
+use native.Mathlib.Numerals.{add-one}
+use mathlib.Core.Path.{_≡_, _∙_}
 use mathlib.Core.List.{List, _∷_}
 use lib.ListN.{length, getD, drop, set, length-set}
 use lib.Seq.{drop-cons, drop-set-lt, getD-set-same, lt-length-set}
 use Rattle.blocks.proofs.Stores.{first}
-use Rattle.bottom_up.specs.declared.Stack.{Stack}
 use Rattle.bottom_up.specs.Held.{Held}
 
 -- a list from a place on, after a store there

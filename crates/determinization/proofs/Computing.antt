@@ -1,16 +1,16 @@
 -- A class written, and a node computed.
 -- Assumes nothing.
-use Prim.Native.Nat.{ℕ, _+_, _*_, _%_, _<_, _≤_}
+use Prim.Native.Nat.{ℕ, _+_, _<_, _≤_}
 use native.Mathlib.Omega.{arith}
 use mathlib.Core.Path.{_≡_, sym, _∙_}
 use mathlib.Core.Logic.{inl}
 use mathlib.Core.List.{List}
-use lib.ListN.{length, getD, take, drop, set}
+use lib.ListN.{length, take, drop, set}
 use Rattle.model.specs.declared.Side.{Side}
 use Rattle.model.specs.declared.Place.{Place}
 use Rattle.algorithms.specs.Automaton.{Automaton}
 use Rattle.algorithms.specs.Overloops.{nodeOverloops}
-use Rattle.overloops.specs.Tables.{Put, sideNumber}
+use Rattle.overloops.specs.Tables.{Put}
 use Rattle.overloops.proofs.Laws.{side-small, part-length, part-at, part-is}
 use Rattle.determinization.specs.Classes.{rowsPlace, rowsOf, Node, Same, IsClass}
 use Rattle.determinization.specs.Cache.{idOf, Right, classes, CachedIn, After}

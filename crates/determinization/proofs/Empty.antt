@@ -1,15 +1,14 @@
 -- Tables with no index and no word are a cache of every automaton.
 -- Assumes nothing.
-use Prim.Native.Nat.{ℕ, zero, suc, _+_, _*_, _<_, _≤_}
+use Prim.Native.Nat.{ℕ, zero, suc, _+_, _<_}
 use native.Mathlib.Omega.{arith}
 use native.Mathlib.Decide.{decLt}
-use mathlib.Core.Path.{_≡_, refl, sym, ap, _∙_}
+use mathlib.Core.Path.{_≡_, refl, sym, _∙_}
 use mathlib.Core.List.{List}
 use lib.ListN.{length, getD, replicate, List·getD-eq-default}
 use Rattle.relation.specs.Rows.{noPairs}
 use Rattle.model.specs.declared.Side.{Side}
 use Rattle.algorithms.specs.Automaton.{Automaton}
-use Rattle.overloops.specs.Tables.{sideNumber}
 use Rattle.overloops.proofs.Laws.{side-small, part-is}
 use Rattle.determinization.specs.Classes.{rowsPlace, rowsOf}
 use Rattle.determinization.specs.Cache.{indexPlace, classes, indices, CachedIn, Kept}

@@ -1,6 +1,6 @@
 -- What keeps a cache a cache: a word more, a class more, an index for a class.
 -- Assumes nothing.
-use Prim.Native.Nat.{ℕ, suc, _+_, _*_, _/_, _%_, _<_, _≤_}
+use Prim.Native.Nat.{ℕ, _+_, _*_, _<_, _≤_}
 use native.Mathlib.Omega.{arith}
 use native.Mathlib.Decide.{ℕ-discrete, decLt}
 use mathlib.Core.Path.{_≡_, refl, sym, ap, _∙_}
@@ -15,7 +15,7 @@ use Rattle.model.specs.declared.Side.{Side}
 use Rattle.algorithms.specs.Automaton.{Automaton}
 use Rattle.overloops.specs.Tables.{sideNumber}
 use Rattle.overloops.proofs.Laws.{side-small}
-use Rattle.determinization.specs.Classes.{rowsOf, Node, Alike, Same}
+use Rattle.determinization.specs.Classes.{Node, Alike, Same}
 use Rattle.determinization.specs.Cache.{indexPlace, indexAt, key, keyIn, wordIn, wordUnder, idOf, Right, classes, indices, CachedIn}
 use Rattle.determinization.proofs.Laws.{node-alike, alike-sym, alike-trans}
 

@@ -1,17 +1,14 @@
 -- Laws of classes.
 -- Assumes nothing.
-use Prim.Native.Nat.{ℕ, _*_, _+_, _<_, _≤_}
-use native.Mathlib.Omega.{arith}
-use mathlib.Core.Path.{_≡_, refl, sym, ap₂, _∙_}
+use Prim.Native.Nat.{ℕ}
+use mathlib.Core.Path.{sym, ap₂, _∙_}
 use mathlib.Core.List.{List}
-use lib.ListN.{length, getD, take, drop}
-use Rattle.relation.specs.Rows.{noPairs}
-use Rattle.model.specs.Trees.{Tree, leaf, node}
+use Rattle.model.specs.Trees.{Tree, node}
 use Rattle.model.specs.declared.Side.{Side}
 use Rattle.model.specs.declared.Place.{Place}
-use Rattle.algorithms.specs.Automaton.{Automaton, Proper}
+use Rattle.algorithms.specs.Automaton.{Automaton}
 use Rattle.algorithms.specs.Overloops.{nodeLoops, overloops, nodeOverloops}
-use Rattle.determinization.specs.Classes.{rowsOf, Tells, Node, Alike}
+use Rattle.determinization.specs.Classes.{Tells, Node, Alike}
 
 -- the class of a node over classes that tell of two trees tells of the node over them
 pub node-tells : (A : Automaton) (store : List ℕ) (σ l r i : ℕ) (t u : Tree) → Node A store σ l r i → Tells A store l t → Tells A store r u

@@ -1,7 +1,6 @@
 -- `bottom_up::verdict_of` meets its contract.
 -- Assumes nothing.
 use mathlib.Core.Path.{sym, _∙_}
-use borrow.Author.Needs.{needs}
 use Rattle.bottom_up.proofs.verdict_of.Statement.{statement}
 use Rattle.bottom_up.proofs.verdict_of.Tie as tie
 

@@ -3,10 +3,7 @@ use Rattle.model.specs.declared.Move.{Move}
 -- `determinization::carried` meets its contract.
 -- Assumes nothing.
 use Rattle.overloops.proofs.Laws.{moves-are}
-use Rattle.relation.specs.Rows.{composed}
-use Prim.Native.Nat.{ℕ}
-use mathlib.Core.List.{List}
-use mathlib.Core.Path.{ap, _∙_}
+use mathlib.Core.Path.{_∙_}
 use borrow.Author.Needs.{needs}
 use Rattle.determinization.proofs.carried.Statement.{statement}
 use Rattle.determinization.proofs.carried.Tie as tie
