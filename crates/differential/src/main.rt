@@ -57,7 +57,7 @@ fn same(a: Verdict, b: Verdict) -> bool {
 
 // The engine's verdict.
 fn engine(automaton: &[u8], tree: &[u8]) -> Verdict {
-    match membership::judge(automaton, tree) {
+    match judging::judge(automaton, tree) {
         Answer::Accepted => judged(true),
         Answer::Other => judged(false),
         Answer::Refused(refusal) => {
