@@ -12,11 +12,10 @@ use judging::judge_with;
 use membership::Answer;
 use transitions::TransitionTable;
 ghost use mathlib.Core.Path.{_≡_};
-ghost use mathlib.Core.Bool.{true, false, not};
+ghost use mathlib.Core.Bool.{true, not};
 ghost use mathlib.Core.List.{_∷_, []};
-ghost use mathlib.Core.Logic.{_⊎_};
 ghost use Prim.Native.Nat.{_+_, _*_, _<_, _≤_};
-ghost use lib.ListN.{length, take, drop};
+ghost use lib.ListN.{length, drop};
 ghost use lib.Seq.{sets};
 ghost use Rattle.algorithms.specs.Automaton.{Automaton};
 ghost use Rattle.automaton.specs.File.{WithinLimits};
@@ -113,7 +112,7 @@ pub fn judge_part(
         × ((A : Automaton) → Headed A header (now (table .entry))
         → CachedIn A (now (counts .entry)) (now (store .entry)) (now (maps .entry)) (now (cells .entry))
         → CachedIn A (now (counts .exit)) (now (store .exit)) (now (maps .exit)) (now (cells .exit))
-        × Part A (now (bytes .entry)) (now (answers .entry)) (now (answers .exit)) r) ⌝ }
+        × Part A (now (bytes .entry)) (now (answers .entry)) (now (answers .exit)) r) × (r .bytes ≤ 4608 * r .files) ⌝ }
 {
     let mut files: usize = 0;
     let mut at: usize = 0;

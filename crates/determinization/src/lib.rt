@@ -15,13 +15,13 @@ ghost use mathlib.Core.Path.{_≡_};
 ghost use mathlib.Core.Bool.{true};
 ghost use mathlib.Core.List.{List};
 ghost use Prim.Native.Nat.{ℕ, _+_, _*_, _<_, _≤_};
-ghost use lib.ListN.{length, getD};
+ghost use lib.ListN.{getD};
 ghost use Rattle.relation.specs.Rows.{composed};
 ghost use Rattle.algorithms.specs.Automaton.{Automaton};
 ghost use Rattle.algorithms.specs.Overloops.{moves, nodeOverloops};
 ghost use Rattle.transitions.specs.Compiled.{Compiled};
 ghost use Rattle.overloops.specs.Tables.{Tabled, sideNumber, Put};
-ghost use Rattle.determinization.specs.Classes.{rowsPlace, rowsOf, Node, Alike, IsClass};
+ghost use Rattle.determinization.specs.Classes.{rowsPlace, rowsOf, Node, IsClass};
 ghost use Rattle.determinization.specs.Cache.{indexPlace, indexAt, key, wordUnder, idOf, Right, classes, indices, CachedIn, After};
 
 // The classes there are; the indices in use on the left and on the right; the most classes that there may be for now; and two numbers that are

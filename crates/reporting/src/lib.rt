@@ -1,27 +1,33 @@
 // The report on an automaton and a batch of trees: read from two descriptors, written to standard output.
 use automaton::Header;
 use automaton::file::Parsed;
-use batch::Turn;
+use batch::count_rest;
+use batch::part::judge_part;
+use counting::count_all;
+use determinization::Cells;
+use determinization::Counts;
+use determinization::Hints;
+use determinization::IndexMaps;
+use determinization::Store;
 use overloops::LeafTable;
-use refusal::Check;
 use refusal::Refusal;
 use tally::Tally;
-use tally::count;
 use transitions::TransitionTable;
 ghost use mathlib.Core.Path.{_≡_};
-ghost use mathlib.Core.Bool.{true, _&&_};
 ghost use mathlib.Core.List.{List};
 ghost use Prim.Native.Nat.{ℕ, _+_, _-_, _≤_};
-ghost use lib.ListN.{length, take};
+ghost use lib.Dec.{leb};
+ghost use lib.ListN.{length, take, drop};
 ghost use Rattle.algorithms.specs.Automaton.{Automaton};
 ghost use Rattle.automaton.specs.File.{WithinLimits};
 ghost use Rattle.transitions.specs.Transitions.{automatonOf};
-ghost use Rattle.overloops.specs.Ready.{Ready};
-ghost use Rattle.batch.specs.Batch.{passes, turnOf, IsFile};
+ghost use Rattle.overloops.specs.Ready.{Headed, Ready};
+ghost use Rattle.determinization.specs.Cache.{CachedIn};
+ghost use Rattle.tally.specs.Tally.{total};
 ghost use Rattle.wording.specs.ReportLines.{refusedLine, tallyLine};
 ghost use Rattle.report_text.specs.Report.{headOf};
-ghost use Rattle.reporting.specs.Trace.{Asked, Handed, TurnRead};
-ghost use Rattle.reporting.specs.Reported.{Following, Tallied, Reported};
+ghost use Rattle.reporting.specs.Trace.{Asked, Handed};
+ghost use Rattle.reporting.specs.Reported.{Tallied, Reported};
 
 // A file descriptor.
 pub struct Descriptor(pub i32);
@@ -30,87 +36,110 @@ pub struct Descriptor(pub i32);
 fn read_part(input: Descriptor, buffer: &mut [u8], from: usize, to: usize) -> usize
     requires { ⌜ (from ≤ to) × (to ≤ length (now buffer)) ⌝ }
     ensures { λ r. ⌜ (from + r ≤ to) × (take from (now (buffer .exit)) ≡ take from (now (buffer .entry))) × Asked input (to - from) r
-        × (from + r ≤ length (now (buffer .exit))) ⌝ }
+        × (length (now (buffer .exit)) ≡ length (now (buffer .entry))) ⌝ }
 {
     io::read_full(input.0, &mut buffer[from..to])
 }
 
-// Reads the next tree's file into a buffer; what was read comes to.
-fn turn_into(
-    header: Header,
-    table: &TransitionTable,
-    leaves: &LeafTable,
-    input: Descriptor,
-    file: &mut [u8],
-) -> Turn
-    requires { ⌜ WithinLimits header × (length (now file) ≡ 4608) ⌝ }
-    ensures { λ r. ⌜ ((A : Automaton) → Ready A header (now (table .entry)) (now (leaves .entry))
-        → (n : ℕ) × (r ≡ turnOf A (take n (now (file .exit)))) × TurnRead input (take n (now (file .exit)))) ⌝ }
+// Moves bytes from..to of a buffer to its front; how many they are.
+fn move_front(buffer: &mut [u8], from: usize, to: usize) -> usize
+    requires { ⌜ (from ≤ to) × (to ≤ length (now buffer)) ⌝ }
+    ensures { λ r. ⌜ (r ≡ to - from) × (length (now (buffer .exit)) ≡ length (now (buffer .entry)))
+        × (take r (now (buffer .exit)) ≡ drop from (take to (now (buffer .entry)))) ⌝ }
 {
-    let first = read_part(input, file, 0, 512);
-    if first < 512 {
-        return batch::turn_in(header, table, leaves, &file[..first]);
+    let mut i: usize = 0;
+    while i < to - from {
+        buffer[i] = buffer[from + i];
+        i += 1;
     }
-    let end = batch::first_length(&file[..512]);
-    let rest = read_part(input, file, 512, end);
-    let all = 512 + rest;
-    batch::turn_in(header, table, leaves, &file[..all])
+    i
 }
 
-fn read_turn(header: Header, table: &TransitionTable, leaves: &LeafTable, input: Descriptor) -> Turn
-    requires { ⌜ WithinLimits header ⌝ }
-    ensures { λ r. ⌜ ((A : Automaton) → Ready A header (now (table .entry)) (now (leaves .entry))
-        → (s : List ℕ) × (r ≡ turnOf A s) × TurnRead input s) ⌝ }
+// Whether a tally counts no further.
+fn is_full(tally: Tally) -> bool
+    ensures { λ r. ⌜ r ≡ leb 1000000 (total tally) ⌝ }
 {
-    let mut file = [0u8; 4608];
-    turn_into(header, table, leaves, input, &mut file)
+    1000000 <= tally.accepted as u64 + tally.other as u64 + tally.refused as u64
 }
 
-// The next turn, where the batch goes on.
-fn turn_after(
-    check: Check,
-    more: bool,
+// The tally of all files of the input: the buffer is filled, its whole files are judged and counted, and what is left is moved to its front.
+// It ends, since a full buffer has a whole file, and the tally counts 1,000,000.
+fn tally_pieces(
     header: Header,
     table: &TransitionTable,
-    leaves: &LeafTable,
     input: Descriptor,
-) -> Turn
-    requires { ⌜ WithinLimits header ⌝ }
-    ensures { λ r. ⌜ (IsFile r → (passes check && more) ≡ true)
-        × ((A : Automaton) → Ready A header (now (table .entry)) (now (leaves .entry)) → Following (passes check && more) input A r) ⌝ }
-{
-    if batch::goes_on(check, more) {
-        read_turn(header, table, leaves, input)
-    } else {
-        Turn::End
-    }
-}
-
-// The tally of all files of the input. It ends, since the tally refuses the 1,000,001st.
-fn tally_files(
-    header: Header,
-    table: &TransitionTable,
-    leaves: &LeafTable,
-    input: Descriptor,
+    buffer: &mut [u8],
+    answers: &mut [usize],
+    counts: &mut Counts,
+    store: &mut Store,
+    maps: &mut IndexMaps,
+    cells: &mut Cells,
+    hints: &mut Hints,
 ) -> Tally
-    requires { ⌜ WithinLimits header ⌝ }
-    ensures { λ r. ⌜ ((A : Automaton) → Ready A header (now (table .entry)) (now (leaves .entry)) → Tallied input A r) ⌝ }
+    requires { ⌜ WithinLimits header × (length (now buffer) ≡ 65536) × (length (now answers) ≡ 384) ⌝ }
+    ensures { λ r. ⌜ ((A : Automaton) → Headed A header (now (table .entry))
+        → CachedIn A (now (counts .entry)) (now (store .entry)) (now (maps .entry)) (now (cells .entry)) → Tallied input A r) ⌝ }
 {
     let mut tally = Tally {
         accepted: 0,
         other: 0,
         refused: 0,
     };
-    let mut turn = read_turn(header, table, leaves, input);
+    let mut held: usize = 0;
     loop {
-        match turn {
-            Turn::End => return tally,
-            Turn::File(outcome, more) => {
-                let check = count(&mut tally, outcome);
-                turn = turn_after(check, more, header, table, leaves, input);
-            }
+        let got = read_part(input, buffer, held, 65536);
+        let all = held + got;
+        let part = judge_part(
+            header,
+            table,
+            &buffer[..all],
+            answers,
+            counts,
+            store,
+            maps,
+            cells,
+            hints,
+        );
+        let numbers = 3 * part.files;
+        tally = count_all(tally, &answers[..numbers]);
+        if !part.more {
+            return tally;
         }
+        if is_full(tally) {
+            return tally;
+        }
+        if all < 65536 {
+            return count_rest(tally, all - part.bytes);
+        }
+        held = move_front(buffer, part.bytes, all);
     }
+}
+
+// `tally_pieces`, with a buffer, and a cache that has no class yet.
+fn tally_files(header: Header, table: &TransitionTable, input: Descriptor) -> Tally
+    requires { ⌜ WithinLimits header ⌝ }
+    ensures { λ r. ⌜ ((A : Automaton) → Headed A header (now (table .entry)) → Tallied input A r) ⌝ }
+{
+    let mut buffer = io::large_buffer();
+    let mut answers = [0usize; 384];
+    let mut counts = [1u32; 6];
+    counts[4] = 1024;
+    let mut store = [0u32; 49152];
+    let mut maps = [0u16; 66560];
+    let mut cells = [0u64; 16384];
+    let mut hints = [0u16; 6144];
+    tally_pieces(
+        header,
+        table,
+        input,
+        &mut buffer,
+        &mut answers,
+        &mut counts,
+        &mut store,
+        &mut maps,
+        &mut cells,
+        &mut hints,
+    )
 }
 
 // Hands a text to standard output; whether all of it was taken.
@@ -154,7 +183,7 @@ fn report_file(file: &[u8], input: Descriptor) -> bool
         Parsed::Refused(refusal) => print_refused(refusal),
         Parsed::Read(header) => {
             let first = print_head(header, &table, &leaves);
-            let tally = tally_files(header, &table, &leaves, input);
+            let tally = tally_files(header, &table, input);
             let last = print_tally(tally);
             first & last
         }

@@ -37,7 +37,7 @@ print-head-requires : tie.Need-print-head-requires
 print-head-requires c κs = ready (c .before .before) .0
 
 tally-files-requires : tie.Need-tally-files-requires
-tally-files-requires c κs = ready (c .before .before .before .before .before) .0
+tally-files-requires c κs = ready (c .before .before .before .before) .0
 
 print-tally-requires : tie.Need-print-tally-requires
 print-tally-requires c κs = search needs
@@ -47,8 +47,8 @@ returns c = reported-refused _ _ _ _ (sym (c .before .before .before .before .pr
 
 returns-2 : tie.Need-returns-2
 returns-2 c =
-    let told = c .before .before .before .before .before .before .before in
-    reported-read _ _ _ _ _ _ _ (read-is told) (c .before .tally-files .ensures _ (ready told .1)) (c .before .before .before .before .print-head .ensures _ (ready told .1)) (c .print-tally .ensures) refl
+    let told = c .before .before .before .before .before .before in
+    reported-read _ _ _ _ _ _ _ (read-is told) (c .before .tally-files .ensures _ (ready told .1 .headed)) (c .before .before .before .print-head .ensures _ (ready told .1)) (c .print-tally .ensures) refl
 
 pub report-file-spec : {M : Type 1} → statement M
 report-file-spec =

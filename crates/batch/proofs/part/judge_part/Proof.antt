@@ -12,6 +12,7 @@ use Rattle.overloops.specs.Ready.{Headed}
 use Rattle.determinization.specs.Cache.{CachedIn}
 use Rattle.batch.specs.Answers.{Part}
 use Rattle.batch.proofs.Parts.{begun, onward}
+use Rattle.batch.proofs.Pieces.{most-bytes}
 use borrow.Author.Needs.{needs}
 use Rattle.batch.proofs.part.judge_part.Statement.{statement}
 use Rattle.batch.proofs.part.judge_part.Tie as tie
@@ -28,12 +29,13 @@ Inv-loop header table bytes answers₀ counts₀ store₀ maps₀ cells₀ hints
     (3 * files ≤ length answers) × (length answers ≡ length answers₀) × (512 * files ≤ at) × (at ≤ length bytes)
     × ((A : Automaton) → Headed A header table → CachedIn A counts₀ store₀ maps₀ cells₀
     → CachedIn A counts store maps cells × Part A bytes answers₀ answers (record { files = files; bytes = at; more = more }))
+    × (at ≤ 4608 * files)
 
 abbrev μ-loop : tie.MeasureT-loop
 μ-loop header table bytes answers₀ counts₀ store₀ maps₀ cells₀ hints₀ files₀ at₀ more₀ answers counts store maps cells hints files at more = length bytes - at
 
 loop-holds : tie.Need-loop-holds Inv-loop μ-loop
-loop-holds c = (omega arith, refl, omega arith, omega arith, λ A k h. (h, begun A _ _))
+loop-holds c = (omega arith, refl, omega arith, omega arith, λ A k h. (h, begun A _ _), omega arith)
 
 mul-room : tie.Need-mul-room Inv-loop μ-loop
 mul-room c = search needs
@@ -45,7 +47,7 @@ same-length : tie.Need-same-length Inv-loop μ-loop
 same-length c = search needs
 
 returns : tie.Need-returns Inv-loop μ-loop
-returns c = let v = c .before .before .loop .inv in (v .0, v .1, v .2, v .3, (λ e. inr (omega (arith, v .0, v .1, c .if1 .taken))), v .4)
+returns c = let v = c .before .before .loop .inv in (v .0, v .1, v .2, v .3, (λ e. inr (omega (arith, v .0, v .1, c .if1 .taken))), v .4, v .5)
 
 whole-length-requires : tie.Need-whole-length-requires Inv-loop μ-loop
 whole-length-requires c κs = search needs
@@ -54,7 +56,7 @@ same-length-2 : tie.Need-same-length-2 Inv-loop μ-loop
 same-length-2 c = search needs
 
 returns-2 : tie.Need-returns-2 Inv-loop μ-loop
-returns-2 c = let v = c .before .before .before .before .loop .inv in (v .0, v .1, v .2, v .3, (λ e. inl (c .before .whole-length .ensures .1 (c .if2 .taken))), v .4)
+returns-2 c = let v = c .before .before .before .before .loop .inv in (v .0, v .1, v .2, v .3, (λ e. inl (c .before .whole-length .ensures .1 (c .if2 .taken))), v .4, v .5)
 
 add-end : tie.Need-add-end Inv-loop μ-loop
 add-end c = let n = c .before .whole-length .ensures .0 (omega (arith, c .if2 .left)) in omega (arith, n .2, c .before .before .before .before .before .before .before .good)
@@ -95,13 +97,14 @@ loop-again c =
           let at = v .4 A k h in
           let one = told .1 A k (at .0) in
           (one .0, onward A (c .before .before .before .before .before .before .before .before .before .before .before .before .before .before .before .before .before .args .bytes .now) (c .before .before .before .before .before .before .before .before .before .before .before .before .before .before .before .before .before .args .answers .now) (l .answers) _ (l .files) (l .at) (c .before .before .before .before .before .before .before .before .before .before .before .whole-length .result) (l .more) _ (at .1) (c .before .before .before .before .before .before .before .before .before .before .before .before .before .loop-test .taken) (n .0) (within _ _ _ (n .2)) (omega (arith, room, v .1)) (rw (part-is (l .at) (c .before .before .before .before .before .before .before .before .before .before .before .whole-length .result)) at (one .1)) (rw (part-is (l .at) (c .before .before .before .before .before .before .before .before .before .before .before .whole-length .result)) at (one .2))),
+      omega (arith, v .5, n .0, most-bytes (drop (l .at) (c .before .before .before .before .before .before .before .before .before .before .before .before .before .before .before .before .before .args .bytes .now))),
     )
 
 same-length-3 : tie.Need-same-length-3 Inv-loop μ-loop
 same-length-3 c = search needs
 
 returns-3 : tie.Need-returns-3 Inv-loop μ-loop
-returns-3 c = let v = c .before .loop .inv in (v .0, v .1, v .2, v .3, (λ e. clash (cc (c .loop-test .left))), v .4)
+returns-3 c = let v = c .before .loop .inv in (v .0, v .1, v .2, v .3, (λ e. clash (cc (c .loop-test .left))), v .4, v .5)
 
 pub judge-part-spec : {M : Type 1} → statement M
 judge-part-spec =
