@@ -1,4 +1,4 @@
--- The cache: lent tables that hold the classes met so far and, of nodes over them, the classes that were computed. 0 is "not known yet".
+-- The cache: lent tables that hold the classes met so far and, of nodes over them, the classes that were computed. 0 is: not known yet.
 -- At a symbol a class has an index as a left part and one as a right part; classes that do the same there may share it. A cell is a key, made
 -- of the indices of a node's two parts, over a word, which names the node's class. Where a key stands among the cells does not matter.
 -- Interface: `indexAt`, `key`, `wordUnder`, `idOf`, `Right`, `classes`, `indices`, `CachedIn`, `After`, `Kept`.
