@@ -22,7 +22,7 @@ use Rattle.batch.proofs.Counted.{goneOn, part-counted, batch-rest}
 -- ---- the tables of a cache, as they begin
 
 abbrev pub counts₁ : List ℕ
-counts₁ = set (replicate 6 1) 4 1024
+counts₁ = set (replicate 6 1) 4 2048
 
 one-index : (s : Side) → indices counts₁ s ≡ 1
 one-index Side.Left = refl

@@ -82,7 +82,7 @@ pub fn tally_all(before: Tally, header: Header, table: &TransitionTable, bytes: 
     let mut cells = [0u64; 16384];
     let mut hints = [0u16; 6144];
     let mut answers = [0usize; 384];
-    counts[4] = 1024;
+    counts[4] = 2048;
     let mut tally = before;
     let mut at: usize = 0;
     loop {

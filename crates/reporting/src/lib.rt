@@ -123,7 +123,7 @@ fn tally_files(header: Header, table: &TransitionTable, input: Descriptor) -> Ta
     let mut buffer = io::large_buffer();
     let mut answers = [0usize; 384];
     let mut counts = [1u32; 6];
-    counts[4] = 1024;
+    counts[4] = 2048;
     let mut store = [0u32; 49152];
     let mut maps = [0u16; 66560];
     let mut cells = [0u64; 16384];
