@@ -5,12 +5,12 @@
  * encodings in crates/numbering/specs/Numbers.antt.
  *
  * Pointers. A pointer with a length points at so many bytes, or more; it is never null, also where the length is 0. A pointer to numbers
- * is aligned as its type is. What a function writes to (told, out, log, counts, tally, text, a survey's plan) overlaps nothing else that it
+ * is aligned as its type is. What a function writes to (told, answers, out, log, counts, tally, text, a survey's plan) overlaps nothing else that it
  * was given; what it only reads may overlap. Nothing is kept after the call.
  *
  * What is written. `told` is always written, all three numbers: what the answer tells, or, of a refusal, its number (1 to 14 of document
  * 01's table, 15 to 23 of document 02), the file (0 automaton, 1 tree, 2 neither), and the place that the table names; what an answer does
- * not tell is 0. `plan`, `out`, `log`, `counts`, `tally` and `text` are changed only as said below, and no other memory is.
+ * not tell is 0. `answers`, `plan`, `out`, `log`, `counts`, `tally` and `text` are changed only as said below, and no other memory is.
  *
  * Threads. Calls share nothing: there is no state between them, no allocation, no lock, no file and no signal. Any number of threads may
  * call at one time, each with memory of its own to be written to.
@@ -23,7 +23,8 @@
 #include <stddef.h>
 #include <stdint.h>
 
-#define ENGINE_JUDGE_STACK (80 * 1024)
+#define ENGINE_JUDGE_STACK (120 * 1024)
+#define ENGINE_JUDGE_ALL_STACK (720 * 1024)
 #define ENGINE_SURVEY_STACK (60 * 1024)
 #define ENGINE_WITNESS_STACK (20 * 1024)
 #define ENGINE_QUICK_STACK (52 * 1024)
@@ -34,8 +35,8 @@
 #define ENGINE_COMPARE_STACK (72 * 1024)
 #define ENGINE_COUNT_STACK (4 * 1024)
 #define ENGINE_PERCENT_STACK (4 * 1024)
-#define ENGINE_TALLY_STACK (80 * 1024)
-#define ENGINE_REPORT_STACK (80 * 1024)
+#define ENGINE_TALLY_STACK (720 * 1024)
+#define ENGINE_REPORT_STACK (720 * 1024)
 
 #ifdef __cplusplus
 extern "C" {
@@ -44,6 +45,15 @@ extern "C" {
 /* Whether an automaton accepts a tree.
  * 0 accepted, 1 other (judged, not accepted), 2 refused (number, file, place). */
 uint32_t engine_judge(const uint8_t *automaton, size_t automaton_length, const uint8_t *tree, size_t tree_length, size_t told[3]);
+
+/* Judges trees' files end to end: a file's first block gives its length; refusals 1 to 4, and trees that stop inside a file, are the last answer.
+ * Each file has three numbers in `answers`, in the order of the files: 0 accepted, 1 other, 2 refused; of a refusal its number and its place, else
+ * 0 and 0. Each is what engine_judge answers of that file alone (the file of a refusal is 1). As many files are judged as there is room for, three
+ * numbers each; 3 x (trees_length / 512 + 1) numbers have room for all. Later numbers stay. What is found out about subtrees is kept from file to
+ * file while the call lasts, in memory on its stack, so that a call with many files is faster than many calls.
+ * 0 judged (the files), 1 the automaton's file is refused (number, file, place), and the answers stay as they were. */
+uint32_t engine_judge_all(const uint8_t *automaton, size_t automaton_length, const uint8_t *trees, size_t trees_length, size_t *answers,
+                          size_t answers_length, size_t told[3]);
 
 /* Looks for a tree that an automaton accepts. Where one is found, the plan that builds it goes to the front of the buffer, three bytes a
  * row: symbol, left row, right row, or 255 255 for a leaf; the last row is the tree. Later bytes, and the whole buffer on other answers,

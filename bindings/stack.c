@@ -184,6 +184,12 @@ static void call_judge(void)
     answer = engine_judge(input.walker, input.walker_length, input.letter, input.letter_length, told);
 }
 
+static void call_judge_all(void)
+{
+    static size_t answers[3];
+    answer = engine_judge_all(input.walker, input.walker_length, input.letter, input.letter_length, answers, 3, told);
+}
+
 static void call_survey(void)
 {
     static uint8_t plan[195];
@@ -302,12 +308,19 @@ static const struct {
     void (*call)(void);
     size_t limit;
 } functions[] = {
-    {"engine_judge", call_judge, ENGINE_JUDGE_STACK},       {"engine_survey", call_survey, ENGINE_SURVEY_STACK},
-    {"engine_witness", call_witness, ENGINE_WITNESS_STACK}, {"engine_quick", call_quick, ENGINE_QUICK_STACK},
-    {"engine_single", call_single, ENGINE_SINGLE_STACK},    {"engine_canonical", call_canonical, ENGINE_CANONICAL_STACK},
-    {"engine_markup", call_markup, ENGINE_MARKUP_STACK},    {"engine_watch", call_watch, ENGINE_WATCH_STACK},
-    {"engine_compare", call_compare, ENGINE_COMPARE_STACK}, {"engine_count", call_count, ENGINE_COUNT_STACK},
-    {"engine_percent", call_percent, ENGINE_PERCENT_STACK}, {"engine_tally", call_tally, ENGINE_TALLY_STACK},
+    {"engine_judge", call_judge, ENGINE_JUDGE_STACK},
+    {"engine_judge_all", call_judge_all, ENGINE_JUDGE_ALL_STACK},
+    {"engine_survey", call_survey, ENGINE_SURVEY_STACK},
+    {"engine_witness", call_witness, ENGINE_WITNESS_STACK},
+    {"engine_quick", call_quick, ENGINE_QUICK_STACK},
+    {"engine_single", call_single, ENGINE_SINGLE_STACK},
+    {"engine_canonical", call_canonical, ENGINE_CANONICAL_STACK},
+    {"engine_markup", call_markup, ENGINE_MARKUP_STACK},
+    {"engine_watch", call_watch, ENGINE_WATCH_STACK},
+    {"engine_compare", call_compare, ENGINE_COMPARE_STACK},
+    {"engine_count", call_count, ENGINE_COUNT_STACK},
+    {"engine_percent", call_percent, ENGINE_PERCENT_STACK},
+    {"engine_tally", call_tally, ENGINE_TALLY_STACK},
     {"engine_report", call_report, ENGINE_REPORT_STACK},
 };
 

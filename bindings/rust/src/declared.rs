@@ -20,6 +20,15 @@ extern "C" {
         tree_length: usize,
         told: *mut Told,
     ) -> u32;
+    fn engine_judge_all(
+        automaton: *const u8,
+        automaton_length: usize,
+        trees: *const u8,
+        trees_length: usize,
+        answers: *mut usize,
+        answers_length: usize,
+        told: *mut Told,
+    ) -> u32;
     fn engine_survey(file: *const u8, length: usize, plan: *mut u8, plan_length: usize, told: *mut Told) -> u32;
     fn engine_witness(
         file: *const u8,
@@ -93,6 +102,21 @@ fn telling(call: impl FnOnce(*mut Told) -> u32) -> (u32, Told) {
 pub fn judge(automaton: &[u8], tree: &[u8]) -> (u32, Told) {
     // SAFETY: both pointers are of slices, with their lengths; `told` is written to, and is the call's own.
     telling(|told| unsafe { engine_judge(automaton.as_ptr(), automaton.len(), tree.as_ptr(), tree.len(), told) })
+}
+
+pub fn judge_all(automaton: &[u8], trees: &[u8], answers: &mut [usize]) -> (u32, Told) {
+    // SAFETY: the pointers are of slices, with their lengths; `answers` is lent to be written to, and `told` is the call's own.
+    telling(|told| unsafe {
+        engine_judge_all(
+            automaton.as_ptr(),
+            automaton.len(),
+            trees.as_ptr(),
+            trees.len(),
+            answers.as_mut_ptr(),
+            answers.len(),
+            told,
+        )
+    })
 }
 
 pub fn survey(file: &[u8], plan: &mut [u8]) -> (u32, Told) {

@@ -1,4 +1,4 @@
-//! The engine for tree-walking automata, from its static library: judging, the survey and its plan's tree, the quick check, single, the one
+//! The engine for tree-walking automata, from its static library: judging one tree and many, the survey and its plan's tree, the quick check, single, the one
 //! form of an automaton's file, element texts as trees' files, watching a run, two logs held together, the tally, and the report.
 //! Files are given as their bytes; every input is answered, a bad file by its refusal. Calls share nothing, and may be made by any number
 //! of threads; `bindings/engine.h` says how much stack each takes.
@@ -122,6 +122,25 @@ pub fn judge(automaton: &[u8], tree: &[u8]) -> Result<Verdict, Refusal> {
         (0, _) => Ok(Verdict::Accepted),
         (1, _) => Ok(Verdict::Other),
         (_, told) => Err(Refusal::of(told)),
+    }
+}
+
+/// What `judge` answers of each of some trees' files, end to end, in their order: a file's first block gives its length; refusals 1 to 4, and trees
+/// that stop inside a file, are the last answer. One call with many files is faster than many calls.
+pub fn judge_all(automaton: &[u8], trees: &[u8]) -> Result<Vec<Result<Verdict, Refusal>>, Refusal> {
+    let mut numbers = vec![0; 3 * (trees.len() / 512 + 1)];
+    match declared::judge_all(automaton, trees, &mut numbers) {
+        (0, [files, ..]) => Ok(numbers.chunks_exact(3).take(files).map(answer).collect()),
+        (_, told) => Err(Refusal::of(told)),
+    }
+}
+
+/// An answer by its three numbers.
+fn answer(numbers: &[usize]) -> Result<Verdict, Refusal> {
+    match numbers[0] {
+        0 => Ok(Verdict::Accepted),
+        1 => Ok(Verdict::Other),
+        _ => Err(Refusal { number: numbers[1] as u32, file: File::Tree, place: numbers[2] }),
     }
 }
 

@@ -49,6 +49,17 @@ stored-after x y v n m e f room =
     sets-eq v (x ++ y) n all
     ∙ rw (take-at x y n e, f, ← drop-drop m n (x ++ y), drop-at x y n e) refl
 
+-- one answer more, behind the others
+pub put-more : (l : List Answer) (a : Answer) (lent lent′ lent″ : List ℕ) (files : ℕ) → length l ≡ files → 3 * files + 3 ≤ length lent
+    → lent′ ≡ allNumbers l ++ drop (3 * files) lent → lent″ ≡ sets lent′ (3 * files) (answerNumbers a)
+    → lent″ ≡ allNumbers (l ++ a ∷ []) ++ drop (3 * (files + 1)) lent
+put-more l a lent lent′ lent″ files count room written put =
+    let left : 3 ≤ length (drop (3 * files) lent) = simp length-drop (omega arith) in
+    let more : 3 * files + 3 ≡ 3 * (files + 1) = omega arith in
+    put ∙ ap (λ (l : List ℕ). sets l (3 * files) (answerNumbers a)) written
+    ∙ stored-after (allNumbers l) (drop (3 * files) lent) (answerNumbers a) (3 * files) 3 (omega (arith, numbers-length l, count)) (three-numbers a) left
+    ∙ rw (numbers-more l a, ← more) (ap (λ (x : List ℕ). (allNumbers l ++ answerNumbers a) ++ x) (drop-drop 3 (3 * files) lent))
+
 pub begun : (A : Automaton) (s lent : List ℕ) → Part A s lent lent (record { files = 0; bytes = 0; more = true })
 begun A s lent = record { answers = []; count = refl; written = refl; all = λ rest. refl }
 
@@ -77,18 +88,8 @@ module _ (A : Automaton) (s lent lent′ lent″ : List ℕ) (files at n : ℕ) 
   onward = record {
     answers = p .answers ++ a ∷ [];
     count = length-append (p .answers) (a ∷ []) ∙ ap (λ (m : ℕ). m + 1) (p .count);
-    written =
-        put ∙ ap (λ (l : List ℕ). sets l (3 * files) (answerNumbers a)) (p .written)
-        ∙ stored-after (allNumbers (p .answers)) (drop (3 * files) lent) (answerNumbers a) (3 * files) 3
-        (omega (arith, numbers-length (p .answers), p .count)) (three-numbers a) (room-left)
-        ∙ rw (numbers-more (p .answers) a, ← three-more files) (ap (λ (x : List ℕ). (allNumbers (p .answers) ++ answerNumbers a) ++ x) (drop-drop 3 (3 * files) lent));
+    written = put-more (p .answers) a lent lent′ lent″ files (p .count) room (p .written) put;
     all = λ rest.
         p .all rest ∙ rw on (ap (λ (x : List Answer). p .answers ++ x) (later rest)
         ∙ sym (append-assoc (p .answers) (a ∷ []) (laterIf more′ (answersOf A (drop (at + n) s ++ rest)))));
   }
-    where
-      room-left : 3 ≤ length (drop (3 * files) lent)
-      room-left = simp length-drop (omega (arith, room))
-
-      three-more : (m : ℕ) → 3 * m + 3 ≡ 3 * (m + 1)
-      three-more m = omega arith

@@ -32,7 +32,7 @@ fn file_blocks(first: &[u8]) -> usize
 }
 
 // The bytes from a place on; none where the place is past the end.
-fn back(bytes: &[u8], at: usize) -> &[u8]
+pub fn back(bytes: &[u8], at: usize) -> &[u8]
     ensures { λ r. ⌜ now r ≡ drop at (now (bytes .entry)) ⌝ }
 {
     if at <= bytes.len() {

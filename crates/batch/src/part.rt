@@ -67,7 +67,7 @@ fn put_numbers(answers: &mut [usize], at: usize, kind: usize, number: usize, pla
 }
 
 // Judges a file and writes its answer; whether the batch goes on after it.
-fn judge_one(
+pub fn judge_one(
     header: Header,
     table: &TransitionTable,
     file: &[u8],

@@ -1,6 +1,7 @@
 // The engine's public functions, over the bytes of files; none asks anything of its caller. `numbers` has the same for Rust and C.
 pub mod numbers;
 
+use answers::Judgement;
 use block_writer::Written;
 use determinism::Singleness;
 use membership::Answer;
@@ -12,6 +13,7 @@ use watch::Watched;
 ghost use mathlib.Core.Path.{_≡_};
 ghost use Rattle.membership.specs.Judged.{judged};
 ghost use Rattle.membership.specs.Demand2.{Demand2};
+ghost use Rattle.answers.specs.All as all-spec;
 ghost use Rattle.emptiness.specs.Surveyed.{answered, surveyed};
 ghost use Rattle.emptiness.specs.Checked.{checked};
 ghost use Rattle.emptiness.specs.Demand3.{Demand3, Demand3Quick};
@@ -40,6 +42,15 @@ pub fn judge(automaton: &[u8], tree: &[u8]) -> Answer
     ensures right { λ r. ⌜ Demand2 (now (automaton .entry)) (now (tree .entry)) r ⌝ }
 {
     judging::judge(automaton, tree)
+}
+
+// Judges trees' files, end to end, by an automaton's file: an answer of three numbers for each (0 accepted, 1 other, 2 refused; a refusal's number;
+// its place), as many as there is room for.
+pub fn judge_all(automaton: &[u8], trees: &[u8], numbers: &mut [usize]) -> Judgement
+    ensures equals { λ r. ⌜ all-spec.outcome r (now (numbers .exit)) ≡ all-spec.judgedAll (now (automaton .entry)) (now (trees .entry)) (now (numbers .entry)) ⌝ }
+    ensures right { λ r. ⌜ all-spec.Each (now (automaton .entry)) (now (trees .entry)) (all-spec.outcome r (now (numbers .exit))) ⌝ }
+{
+    answers::judge_all(automaton, trees, numbers)
 }
 
 // Looks for a tree that an automaton's file accepts: where one is found, a plan that builds it goes to the front of the buffer.

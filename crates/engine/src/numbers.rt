@@ -12,6 +12,8 @@ use watch::Watched;
 ghost use mathlib.Core.Path.{_≡_};
 ghost use lib.ListN.{length};
 ghost use Rattle.membership.specs.Judged.{judged};
+ghost use Rattle.answers.specs.All as all-spec;
+ghost use Rattle.answers.specs.declared.Judgement.{Judgement};
 ghost use Rattle.membership.specs.Demand2.{Demand2};
 ghost use Rattle.emptiness.specs.Surveyed.{answered, surveyed};
 ghost use Rattle.emptiness.specs.Checked.{checked};
@@ -35,7 +37,7 @@ ghost use Rattle.watch.specs.Promise as watch-spec;
 ghost use Rattle.agreement.specs.Common.{commonPart};
 ghost use Rattle.logs.specs.Compare.{comparedOf, partOf, toldOf};
 ghost use Rattle.logs.specs.Promise as logs-spec;
-ghost use Rattle.numbering.specs.Numbers.{answerNumber, answerTold, surveyNumber, surveyTold, quickNumber, quickTold, singleNumber, singleTold, writtenNumber, writtenTold, watchNumber, watchTold, comparedNumber, comparedCounts, comparedTold, outcomeNumbered, tallyOf, tallyNumbers, checkNumber, checkTold, judgedTally};
+ghost use Rattle.numbering.specs.Numbers.{answerNumber, answerTold, judgementNumber, judgementTold, surveyNumber, surveyTold, quickNumber, quickTold, singleNumber, singleTold, writtenNumber, writtenTold, watchNumber, watchTold, comparedNumber, comparedCounts, comparedTold, outcomeNumbered, tallyOf, tallyNumbers, checkNumber, checkTold, judgedTally};
 
 // Whether an automaton's file accepts a tree's file.
 #[no_mangle]
@@ -46,6 +48,23 @@ pub extern "C" fn engine_judge(automaton: &[u8], tree: &[u8], told: &mut [usize;
         × Demand2 (now (automaton .entry)) (now (tree .entry)) a) ⌝ }
 {
     numbering::put_answer(crate::judge(automaton, tree), told)
+}
+
+// The answers to trees' files end to end, three numbers each.
+#[no_mangle]
+pub extern "C" fn engine_judge_all(
+    automaton: &[u8],
+    trees: &[u8],
+    answers: &mut [usize],
+    told: &mut [usize; 3],
+) -> u32
+    ensures equals { λ r. ⌜ (r ≡ judgementNumber (all-spec.judgedAll (now (automaton .entry)) (now (trees .entry)) (now (answers .entry)) .judgement))
+        × (now (told .exit) ≡ judgementTold (all-spec.judgedAll (now (automaton .entry)) (now (trees .entry)) (now (answers .entry)) .judgement))
+        × (now (answers .exit) ≡ all-spec.judgedAll (now (automaton .entry)) (now (trees .entry)) (now (answers .entry)) .numbers) ⌝ }
+    ensures right { λ r. ⌜ ((j : Judgement) × (r ≡ judgementNumber j) × (now (told .exit) ≡ judgementTold j)
+        × all-spec.Each (now (automaton .entry)) (now (trees .entry)) (all-spec.outcome j (now (answers .exit)))) ⌝ }
+{
+    numbering::put_judgement(crate::judge_all(automaton, trees, answers), told)
 }
 
 // Looks for a tree that an automaton's file accepts; the plan goes to the front of the buffer.

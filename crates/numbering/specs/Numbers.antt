@@ -1,6 +1,6 @@
 -- Answers as numbers, for programs in other languages: of each the number that is answered, and the three numbers told with it.
 -- Interface: `refusalTold`, `answerNumber`, `answerTold`, `surveyNumber`, `surveyTold`, `quickNumber`, `quickTold`, `singleNumber`, `singleTold`,
--- `writtenNumber`, `writtenTold`, `watchNumber`, `watchTold`, `comparedNumber`, `comparedCounts`, `comparedTold`, `outcomeNumbered`, `tallyOf`,
+-- `judgementNumber`, `judgementTold`, `writtenNumber`, `writtenTold`, `watchNumber`, `watchTold`, `comparedNumber`, `comparedCounts`, `comparedTold`, `outcomeNumbered`, `tallyOf`,
 -- `tallyNumbers`, `checkNumber`, `checkTold`, `judgedTally`.
 use Prim.Native.Nat.{ℕ, zero, suc}
 use mathlib.Core.List.{List, [], _∷_}
@@ -10,6 +10,7 @@ use Rattle.refusal.specs.declared.Refusal.{Refusal}
 use Rattle.block_writer.specs.declared.Written.{Written}
 use Rattle.determinism.specs.declared.Singleness.{Singleness}
 use Rattle.membership.specs.declared.Answer.{Answer}
+use Rattle.answers.specs.declared.Judgement.{Judgement}
 use Rattle.emptiness.specs.declared.Survey.{Survey}
 use Rattle.emptiness.specs.declared.Quick.{Quick}
 use Rattle.tally.specs.declared.Outcome.{Outcome}
@@ -35,6 +36,15 @@ abbrev pub answerTold : Answer → List ℕ
 answerTold Answer.Accepted = none
 answerTold Answer.Other = none
 answerTold (Answer.Refused r) = refusalTold r
+
+-- judging many files: how many were judged
+abbrev pub judgementNumber : Judgement → ℕ
+judgementNumber (Judgement.Files n) = 0
+judgementNumber (Judgement.Refused r) = 1
+
+abbrev pub judgementTold : Judgement → List ℕ
+judgementTold (Judgement.Files n) = n ∷ 0 ∷ 0 ∷ []
+judgementTold (Judgement.Refused r) = refusalTold r
 
 -- the survey: height, and the plan's rows where a tree was found
 abbrev pub surveyNumber : Survey → ℕ

@@ -1,5 +1,6 @@
 // Answers as numbers, for programs in other languages: each function answers a number, and leaves three more in `told`: those of the answer, or
 // of a refusal its number, file and place; what is missing is 0.
+use answers::Judgement;
 use block_writer::Written;
 use determinism::Singleness;
 use emptiness::Quick;
@@ -12,7 +13,7 @@ use tally::Outcome;
 use tally::Tally;
 use watch::Watched;
 ghost use mathlib.Core.Path.{_≡_};
-ghost use Rattle.numbering.specs.Numbers.{refusalTold, answerNumber, answerTold, surveyNumber, surveyTold, quickNumber, quickTold, singleNumber, singleTold, writtenNumber, writtenTold, watchNumber, watchTold, comparedNumber, comparedCounts, comparedTold, outcomeNumbered, tallyNumbers, checkNumber, checkTold};
+ghost use Rattle.numbering.specs.Numbers.{refusalTold, answerNumber, answerTold, judgementNumber, judgementTold, surveyNumber, surveyTold, quickNumber, quickTold, singleNumber, singleTold, writtenNumber, writtenTold, watchNumber, watchTold, comparedNumber, comparedCounts, comparedTold, outcomeNumbered, tallyNumbers, checkNumber, checkTold};
 
 fn put_refusal(refusal: Refusal, told: &mut [usize; 3])
     ensures { λ _. ⌜ now (told .exit) ≡ refusalTold refusal ⌝ }
@@ -35,6 +36,22 @@ pub fn put_answer(answer: Answer, told: &mut [usize; 3]) -> u32
         Answer::Refused(refusal) => {
             put_refusal(refusal, told);
             2
+        }
+    }
+}
+
+// 0 judged (files), 1 refused.
+pub fn put_judgement(judgement: Judgement, told: &mut [usize; 3]) -> u32
+    ensures { λ r. ⌜ (r ≡ judgementNumber judgement) × (now (told .exit) ≡ judgementTold judgement) ⌝ }
+{
+    match judgement {
+        Judgement::Files(files) => {
+            *told = [files, 0, 0];
+            0
+        }
+        Judgement::Refused(refusal) => {
+            put_refusal(refusal, told);
+            1
         }
     }
 }

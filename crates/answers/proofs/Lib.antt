@@ -1,0 +1,3 @@
+-- The laws of judging many files.
+pub mod Laws
+pub mod Eachwise

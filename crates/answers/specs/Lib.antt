@@ -1,0 +1,2 @@
+-- The definition of judging many files.
+pub mod All
