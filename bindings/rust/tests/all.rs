@@ -38,8 +38,11 @@ fn first_file(trees: &[u8]) -> Option<&[u8]> {
 
 /// What has to be answered, file by file: by the search in Rust, and for a file that the trees stop inside by the engine's refusal of it alone.
 fn expected(automaton: &[u8], mut trees: &[u8]) -> Result<Vec<Result<Verdict, Refusal>>, Refusal> {
-    let search = Configurations::prepare(automaton)
-        .map_err(|bench::Refusal { number, place }| Refusal { number, file: File::Automaton, place })?;
+    let search = Configurations::prepare(automaton).map_err(|bench::Refusal { number, place }| Refusal {
+        number,
+        file: File::Automaton,
+        place,
+    })?;
     let mut answers = Vec::new();
     while !trees.is_empty() {
         let Some(file) = first_file(trees) else {

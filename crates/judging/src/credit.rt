@@ -17,6 +17,17 @@ pub fn blocks_in(file: &[u8]) -> u32
     (file.len() / 512 % 16) as u32
 }
 
+// What a tree that the cache judged adds: the more, the longer a search would have taken.
+pub fn gain(blocks: u32) -> u32
+    requires { ⌜ blocks < 16 ⌝ }
+    ensures { λ r. ⌜ r < 128 ⌝ }
+{
+    if blocks < 2 {
+        return 1;
+    }
+    8 * blocks
+}
+
 // Whether the cache is asked for the next tree, which may then bring as many classes as there is credit for, four for each. While it rests, a tree
 // adds one for each of its blocks.
 pub fn begin(counts: &mut Counts, blocks: u32) -> bool

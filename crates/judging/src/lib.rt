@@ -5,6 +5,7 @@ pub mod credit;
 use crate::credit::begin;
 use crate::credit::blocks_in;
 use crate::credit::end;
+use crate::credit::gain;
 use crate::credit::renew;
 use automaton::Header;
 use automaton::file::Parsed;
@@ -118,11 +119,11 @@ pub fn judge_with(
     }
     match by_classes(header, table, file, counts, store, maps, cells, hints) {
         Verdict::Accepted => {
-            end(counts, 8 * blocks);
+            end(counts, gain(blocks));
             Answer::Accepted
         }
         Verdict::Other => {
-            end(counts, 8 * blocks);
+            end(counts, gain(blocks));
             Answer::Other
         }
         Verdict::Unknown => {

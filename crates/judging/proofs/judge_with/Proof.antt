@@ -23,8 +23,8 @@ by-classes-requires c κs = search needs
 enum-told : tie.Need-enum-told
 enum-told c = search needs
 
-mul-end : tie.Need-mul-end
-mul-end c = search needs
+gain-requires : tie.Need-gain-requires
+gain-requires c κs = search needs
 
 end-requires : tie.Need-end-requires
 end-requires c κs = search needs
@@ -32,8 +32,8 @@ end-requires c κs = search needs
 enum-told-2 : tie.Need-enum-told-2
 enum-told-2 c = search needs
 
-mul-end-2 : tie.Need-mul-end-2
-mul-end-2 c = search needs
+gain-requires-2 : tie.Need-gain-requires-2
+gain-requires-2 c κs = search needs
 
 end-requires-2 : tie.Need-end-requires-2
 end-requires-2 c κs = search needs
@@ -51,10 +51,10 @@ judge-file-requires-2 : tie.Need-judge-file-requires-2
 judge-file-requires-2 c κs = search needs
 
 returns-2 : tie.Need-returns-2
-returns-2 c = λ A k h. let told = c .before .before .before .before .by-classes .ensures A k (kept-cache A _ _ _ _ _ (c .before .before .before .before .before .before .before .before .before .before .before .begin .ensures) h) in (kept-cache A _ _ _ _ _ (c .end .ensures) (told .0), rw (c .before .before .enum-told .given .1) at (told .1))
+returns-2 c = λ A k h. let told = c .before .before .before .before .before .by-classes .ensures A k (kept-cache A _ _ _ _ _ (c .before .before .before .before .before .before .before .before .before .before .before .before .begin .ensures) h) in (kept-cache A _ _ _ _ _ (c .end .ensures) (told .0), rw (c .before .before .before .enum-told .given .1) at (told .1))
 
 returns-3 : tie.Need-returns-3
-returns-3 c = λ A k h. let told = c .before .before .before .before .by-classes .ensures A k (kept-cache A _ _ _ _ _ (c .before .before .before .before .before .before .before .before .before .before .before .begin .ensures) h) in (kept-cache A _ _ _ _ _ (c .end2 .ensures) (told .0), rw (c .before .before .enum-told2 .given .1) at (told .1))
+returns-3 c = λ A k h. let told = c .before .before .before .before .before .by-classes .ensures A k (kept-cache A _ _ _ _ _ (c .before .before .before .before .before .before .before .before .before .before .before .before .begin .ensures) h) in (kept-cache A _ _ _ _ _ (c .end2 .ensures) (told .0), rw (c .before .before .before .enum-told2 .given .1) at (told .1))
 
 returns-4 : tie.Need-returns-4
 returns-4 c = λ A k h. let told = c .before .before .before .before .before .before .before .before .before .by-classes .ensures A k (kept-cache A _ _ _ _ _ (c .before .before .before .before .before .before .before .before .before .before .before .before .before .before .before .before .begin .ensures) h) in (c .before .renew .ensures A _ (kept-cache A _ _ _ _ _ (c .before .before .before .before .before .end3 .ensures) (told .0)), c .judge-file2 .ensures A k)
@@ -69,10 +69,10 @@ judge-with-spec =
     returns
     by-classes-requires
     enum-told
-    mul-end
+    gain-requires
     end-requires
     enum-told-2
-    mul-end-2
+    gain-requires-2
     end-requires-2
     enum-told-3
     end-requires-3
