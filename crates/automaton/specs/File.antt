@@ -1,5 +1,5 @@
 -- What reading an automaton's file gives (document 01, the walker file): its header, lines 1 to 9 of the table of refusals, and the order.
--- Interface: `headerOf`, `countsCheck`, `beyond`, `setsCheck`, `layoutCheck`, `LaidOut`, `WithinLimits`, `bodyCheck`, `parsed`, `contentsAfter`, `readAutomaton`.
+-- Interface: `headerOf`, `countsCheck`, `beyond`, `setsCheck`, `layoutCheck`, `LaidOut`, `WithinLimits`, `signatureIn`, `bodyCheck`, `parsed`, `contentsAfter`, `readAutomaton`.
 use Prim.Native.Nat.{ℕ, _+_, _*_, _/_, _^_, _≤_}
 use mathlib.Core.Bool.{Bool, not}
 use mathlib.Core.List.{List, _++_}
@@ -12,6 +12,7 @@ use Rattle.refusal.specs.declared.Check.{Check}
 use Rattle.refusal.specs.declared.Fault.{Fault}
 use Rattle.refusal.specs.declared.Refusal.{Refusal}
 use Rattle.refusal.specs.declared.lines.Format.{Format}
+use Rattle.model.specs.declared.Signature.{Signature}
 use Rattle.automaton.specs.Rules.{ruleCheck}
 use Rattle.automaton.specs.declared.Header.{Header}
 use Rattle.automaton.specs.declared.file.Parsed.{Parsed}
@@ -69,6 +70,10 @@ pub record LaidOut (h : Header) (p : List ℕ) : Type 0 where
 -- counts that line 4 passes are within these
 abbrev pub WithinLimits : Header → Type 0
 WithinLimits h = (h .states ≤ 24) × (h .symbols ≤ 32)
+
+-- the symbols that trees are read against
+abbrev pub signatureIn : Header → Signature
+signatureIn h = record { symbols = h .symbols; branches = h .branches }
 
 -- 6 to 9
 unfoldable pub bodyCheck : Header → List ℕ → Check

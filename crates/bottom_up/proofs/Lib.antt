@@ -1,5 +1,3 @@
--- The laws of the stack of words, and of the pass.
-pub mod Laws
-pub mod Stacks
+-- The laws of the pass.
 pub mod Loading
 pub mod Ending

@@ -1,76 +1,87 @@
 -- The stack and the cache after a leaf, and after a branch.
 -- Assumes nothing.
-use Prim.Native.Nat.{ℕ, suc, _+_, _<_, _≤_, max}
+use Prim.Native.Nat.{ℕ, _+_, _<_, _≤_, max}
 use native.Mathlib.Omega.{arith}
-use mathlib.Core.Path.{_≡_}
+use mathlib.Core.Path.{_≡_, _∙_}
 use mathlib.Core.Bool.{true, false}
-use mathlib.Core.List.{List, _∷_}
-use lib.ListN.{getD, drop}
-use lib.Seq.{drop-cons}
+use mathlib.Core.List.{List, [], _∷_}
+use Rattle.relation.specs.Rows.{noPairs}
 use Rattle.relation.specs.Sets.{member}
+use Rattle.model.specs.Trees.{Tree, leaf}
+use Rattle.model.specs.declared.Side.{Side}
+use Rattle.model.specs.declared.Place.{Place}
 use Rattle.model.specs.declared.Signature.{Signature}
 use Rattle.algorithms.specs.Automaton.{Automaton, Proper}
-use Rattle.nodes.specs.Preorder.{Below}
+use Rattle.algorithms.specs.Overloops.{overloops}
+use Rattle.overloops.proofs.Laws.{leaf-formed}
+use Rattle.determinization.specs.Classes.{rowsOf, Tells, Node, Same}
 use Rattle.determinization.specs.Cache.{idOf, Right, classes, After}
-use Rattle.bottom_up.specs.Told.{heightOf, Told}
-use Rattle.bottom_up.specs.Held.{Held}
+use Rattle.determinization.proofs.Laws.{node-tells}
+use Rattle.passes.specs.Told.{heightOf, lowOf}
+use Rattle.passes.specs.Held.{Held}
+use Rattle.passes.specs.declared.Stack.{Stack}
+use Rattle.passes.proofs.Laws as passes
+use Rattle.passes.proofs.Laws.{Becomes}
+use Rattle.bottom_up.specs.Told.{Classed}
 use Rattle.bottom_up.specs.Steps.{Loaded}
-use Rattle.bottom_up.specs.declared.Stack.{Stack}
-use Rattle.bottom_up.proofs.Laws.{two, leaf-more, branch-more}
 
-pub below-more : (n σ : ℕ) (s : List ℕ) → σ < n → Below n s → Below n (σ ∷ s)
-unfolding Below
-below-more n σ s l h = (l, h)
+-- classes that stay tell what they told
+same-tells : (A : Automaton) (n n′ : ℕ) (store store′ : List ℕ) → Same n store store′ → n ≤ n′ → (w : ℕ) (t : Tree)
+    → Classed A n store [] w t → Classed A n′ store′ [] w t
+same-tells A n n′ store store′ same l w t x = (omega (arith, x .0), λ side. same (idOf w) side (x .0) ∙ x .1 side)
+
+same-class : (A : Automaton) (n n′ k : ℕ) (store store′ : List ℕ) → Same n store store′ → n ≤ n′ → Becomes (Classed A n store) (Classed A n′ store′) k
+same-class A n n′ k store store′ same l s w t b x = same-tells A n n′ store store′ same l w t x
+
+-- the class of a node over two blank parts is that of a leaf
+leaf-tells : (A : Automaton) (store : List ℕ) (σ i : ℕ) → Proper A → ((s : Side) → rowsOf store 0 s ≡ noPairs) → Node A store σ 0 0 i
+    → Tells A store i (leaf σ)
+unfolding overloops
+leaf-tells A store σ i proper blank n s = leaf-formed A proper (Place.Child s) σ (blank Side.Left) (blank Side.Right) (n s)
+
+-- a word of the stack names the class that its low part names
+pub low-id : (v w : ℕ) → lowOf v ≡ w → idOf v ≡ idOf w
+low-id v w e = omega arith
 
 pub leaf-on : (A : Automaton) (sg : Signature) (σ w v : ℕ) (counts store maps cells table s counts′ store′ maps′ cells′ table′ : List ℕ) (st st′ : Stack)
     → Proper A → Loaded A sg counts store maps cells table s st → After A counts store counts′ store′ maps′ cells′
-    → Right A (classes counts′) store′ σ 0 0 w → 0 < w → σ < sg .symbols → member (sg .branches) σ ≡ false → heightOf v ≡ 0 → idOf v ≡ idOf w
+    → Right A (classes counts′) store′ σ 0 0 w → 0 < w → σ < sg .symbols → member (sg .branches) σ ≡ false → (heightOf v ≡ 0) × (lowOf v ≡ w)
     → ((ws : List ℕ) → Held table st ws → Held table′ st′ (v ∷ ws)) → Loaded A sg counts′ store′ maps′ cells′ table′ (σ ∷ s) st′
-leaf-on A sg σ w v counts store maps cells table s counts′ store′ maps′ cells′ table′ st st′ proper k after right some small none high id held =
+leaf-on A sg σ w v counts store maps cells table s counts′ store′ maps′ cells′ table′ st st′ proper k after right some small alone word held =
     let known = right some in
     record {
       cached = after .cached;
-      words = v ∷ k .words;
-      held = held (k .words) (k .held);
-      told = leaf-more σ w v proper (after .same) (after .more) (after .cached .blank) none (known .0) (known .1) high id (k .told);
-      below = below-more (sg .symbols) σ s small (k .below);
+      stacked =
+          passes.leaf-on (Classed A (classes counts) store) (Classed A (classes counts′) store′) sg σ v table s table′ st st′ (k .stacked)
+          (same-class A (classes counts) (classes counts′) _ store store′ (after .same) (after .more))
+          (rw (low-id v w (word .1)) (known .0, leaf-tells A store′ σ (idOf w) proper (after .cached .blank) (known .1)))
+          small alone (word .0) held;
     }
 
--- where two words are, they are the two on top
-pub record Top (A : Automaton) (sg : Signature) (counts store table s : List ℕ) (st : Stack) : Type 0 where
-  pub rest : List ℕ
-  pub held : Held table st (st .first ∷ st .second ∷ rest)
-  pub told : Told A (sg .branches) (classes counts) store s (st .first ∷ st .second ∷ rest)
+-- the classes of the two trees on top
+pub known : {A : Automaton} {sg : Signature} {counts store maps cells table s : List ℕ} (st : Stack) → Loaded A sg counts store maps cells table s st
+    → st .top + 1 < 128 → (idOf (st .first) < classes counts) × (idOf (st .second) < classes counts)
+known st k few = let t = passes.top st (k .stacked) few in (t .trees .tells-l .0, t .trees .tells-r .0)
 
-pub top : {A : Automaton} {sg : Signature} {counts store maps cells table s : List ℕ} (st : Stack) → Loaded A sg counts store maps cells table s st
-    → st .top + 1 < 128 → Top A sg counts store table s st
-top {table = table} st k few =
-    let held = k .held in
-    let long = held .size in
-    let one = drop-cons table (st .top) 0 (omega arith) in
-    let two = drop-cons table (suc (st .top)) 0 (omega arith) in
-    let is : k .words ≡ getD table (st .top) 0 ∷ getD table (suc (st .top)) 0 ∷ drop (suc (suc (st .top))) table = cc (held .words) in
-    let x = held .first _ _ is in
-    let y = held .second _ _ _ is in
-    let on-top : k .words ≡ st .first ∷ st .second ∷ drop (suc (suc (st .top))) table = cc in
-    record { rest = drop (suc (suc (st .top))) table; held = rw (← on-top) held; told = rw (← on-top) (k .told) }
-
-pub known : {A : Automaton} {sg : Signature} {counts store table s : List ℕ} {st : Stack} → Top A sg counts store table s st
-    → (idOf (st .first) < classes counts) × (idOf (st .second) < classes counts)
-known t = let p = two (t .told) in (p .word-l .known, p .word-r .known)
-
-pub branch-on : (A : Automaton) (sg : Signature) (σ l r w v h : ℕ) (counts store table s counts′ store′ maps′ cells′ table′ : List ℕ) (st st′ : Stack)
-    → Top A sg counts store table s st → Below (sg .symbols) s → After A counts store counts′ store′ maps′ cells′ → l ≡ idOf (st .first)
+pub branch-on : (A : Automaton) (sg : Signature) (σ l r w v h : ℕ) (counts store maps cells table s counts′ store′ maps′ cells′ table′ : List ℕ) (st st′ : Stack)
+    → Loaded A sg counts store maps cells table s st → st .top + 1 < 128
+    → After A counts store counts′ store′ maps′ cells′ → l ≡ idOf (st .first)
     → r ≡ idOf (st .second) → Right A (classes counts′) store′ σ l r w → 0 < w → σ < sg .symbols
-    → member (sg .branches) σ ≡ true → heightOf v ≡ h → idOf v ≡ idOf w → h ≡ max (heightOf (st .first)) (heightOf (st .second)) + 1 → h ≤ 64
+    → member (sg .branches) σ ≡ true → (heightOf v ≡ h) × (lowOf v ≡ w) → h ≡ max (heightOf (st .first)) (heightOf (st .second)) + 1 → h ≤ 64
     → ((x y : ℕ) (ws : List ℕ) → Held table st (x ∷ y ∷ ws) → Held table′ st′ (v ∷ ws))
     → Loaded A sg counts′ store′ maps′ cells′ table′ (σ ∷ s) st′
-branch-on A sg σ l r w v h counts store table s counts′ store′ maps′ cells′ table′ st st′ t below after el er right some small branch high id over low held =
+branch-on A sg σ l r w v h counts store maps cells table s counts′ store′ maps′ cells′ table′ st st′ k few after el er right some small branch word over low held =
+    let t = passes.top st (k .stacked) few in
     let known : Right A (classes counts′) store′ σ (idOf (st .first)) (idOf (st .second)) w = rw (← el, ← er) right in
+    let p = t .trees in
+    let x = same-tells A (classes counts) (classes counts′) store store′ (after .same) (after .more) (st .first) (p .l) (p .tells-l) in
+    let y = same-tells A (classes counts) (classes counts′) store store′ (after .same) (after .more) (st .second) (p .r) (p .tells-r) in
     record {
       cached = after .cached;
-      words = v ∷ t .rest;
-      held = held _ _ (t .rest) (t .held);
-      told = branch-more σ w v h (after .same) (after .more) branch (known some .0) (known some .1) high id over low (t .told);
-      below = below-more (sg .symbols) σ s small below;
+      stacked =
+          passes.branch-on (Classed A (classes counts) store) (Classed A (classes counts′) store′) sg σ v h table s table′ st st′ t (k .stacked .below)
+          (same-class A (classes counts) (classes counts′) _ store store′ (after .same) (after .more))
+          (rw (low-id v w (word .1))
+          (known some .0, node-tells A store′ σ (idOf (st .first)) (idOf (st .second)) (idOf w) (p .l) (p .r) (known some .1) (x .1) (y .1)))
+          small branch (word .0) over low held;
     }

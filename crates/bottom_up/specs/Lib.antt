@@ -1,5 +1,3 @@
--- Definitions: what a pass over a node list keeps on its stack, and what it tells of the list.
+-- Definitions: what the pass by classes keeps on its stack, and what it finds.
 pub mod Told
-pub mod Held
 pub mod Steps
-pub mod Verdicts

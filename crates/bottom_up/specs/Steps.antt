@@ -1,28 +1,19 @@
 -- What one step of the pass does: the rest of the list with its stack and the cache, before and after a node.
--- Interface: `signatureIn`, `Loaded`, `Stepped`.
+-- Interface: `Loaded`, `Stepped`.
 use Prim.Native.Nat.{ℕ}
 use mathlib.Core.List.{List}
 use Rattle.model.specs.declared.Signature.{Signature}
 use Rattle.algorithms.specs.Automaton.{Automaton}
-use Rattle.automaton.specs.declared.Header.{Header}
-use Rattle.nodes.specs.Preorder.{Below}
 use Rattle.determinization.specs.Cache.{classes, CachedIn}
-use Rattle.bottom_up.specs.Told.{Told}
-use Rattle.bottom_up.specs.Held.{Held}
-use Rattle.bottom_up.specs.declared.Stack.{Stack}
+use Rattle.passes.specs.Stacked.{Stacked}
+use Rattle.passes.specs.declared.Stack.{Stack}
+use Rattle.bottom_up.specs.Told.{Classed}
 use Rattle.bottom_up.specs.declared.Step.{Step}
 
--- the signature that a header has
-abbrev pub signatureIn : Header → Signature
-signatureIn h = record { symbols = h .symbols; branches = h .branches }
-
--- the stack tells of the trees that the list s writes, by the classes of the cache; the list has symbols of the signature
+-- the stack tells of the trees that the list s writes, by the classes of the cache
 pub record Loaded (A : Automaton) (sg : Signature) (counts store maps cells table s : List ℕ) (st : Stack) : Type 0 where
   pub cached : CachedIn A counts store maps cells
-  pub words : List ℕ
-  pub held : Held table st words
-  pub told : Told A (sg .branches) (classes counts) store s words
-  pub below : Below (sg .symbols) s
+  pub stacked : Stacked (Classed A (classes counts) store) sg table s st
 
 -- after a step: the stack tells of the longer list; or the pass is off, and the cache is one all the same
 abbrev pub Stepped : Automaton → Signature → (counts store maps cells table s : List ℕ) → Step → Type 0

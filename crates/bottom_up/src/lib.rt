@@ -17,6 +17,13 @@ use nodes::reader::Here;
 use nodes::reader::read_at;
 use overloops::leaf_loops;
 use overloops::node_loops;
+use passes::Stack;
+use passes::Verdict;
+use passes::height_over;
+use passes::merge;
+use passes::packed;
+use passes::push;
+use passes::verdict_of;
 use relation::Relation;
 use transitions::TransitionTable;
 ghost use mathlib.Core.Path.{_≡_};
@@ -30,13 +37,13 @@ ghost use Rattle.algorithms.specs.Automaton.{Automaton};
 ghost use Rattle.algorithms.specs.Overloops.{overloops, accepts?};
 ghost use Rattle.model.specs.declared.Signature.{Signature};
 ghost use Rattle.nodes.specs.Preorder.{Writes};
+ghost use Rattle.automaton.specs.File.{signatureIn};
 ghost use Rattle.overloops.specs.Tables.{Tabled};
 ghost use Rattle.overloops.specs.Ready.{Headed};
 ghost use Rattle.determinization.specs.Cache.{idOf, classes, CachedIn};
-ghost use Rattle.bottom_up.specs.Told.{heightOf, PassedRight};
-ghost use Rattle.bottom_up.specs.Held.{Held};
-ghost use Rattle.bottom_up.specs.Steps.{signatureIn, Loaded, Stepped};
-ghost use Rattle.bottom_up.specs.Verdicts.{Tells};
+ghost use Rattle.passes.specs.Verdicts.{Tells};
+ghost use Rattle.bottom_up.specs.Told.{PassedRight};
+ghost use Rattle.bottom_up.specs.Steps.{Loaded, Stepped};
 
 // What the pass found: the classes of the root's parts; that the root is a leaf, and all; or nothing.
 enum Passed {
@@ -45,65 +52,11 @@ enum Passed {
     Off,
 }
 
-// The height of a branch over the trees of two words of the stack.
-fn height_over(left: u64, right: u64) -> u64
-    ensures { λ r. ⌜ r ≡ max (heightOf left) (heightOf right) + 1 ⌝ }
-{
-    let higher = if left < right { right } else { left };
-    higher / 4294967296 + 1
-}
-
-// A word of the stack.
-fn packed(height: u64, word: u32) -> u64
-    requires { ⌜ height ≤ 64 ⌝ }
-    ensures { λ r. ⌜ (heightOf r ≡ height) × (idOf r ≡ idOf word) ⌝ }
-{
-    height * 4294967296 + word as u64
-}
-
 // The class that a word of the stack names.
 fn id(word: u64) -> u32
     ensures { λ r. ⌜ (r ≡ idOf word) × (r < 1024) ⌝ }
 {
     (word % 1024) as u32
-}
-
-// A stack of words in a lent table that fills from its end: where its top is, and copies of the two words on top. (A tree at most 64 high has at
-// most 65 parts that wait.)
-struct Stack {
-    top: usize,
-    first: u64,
-    second: u64,
-}
-
-// One word more.
-fn push(table: &mut [u64; 128], stack: Stack, word: u64) -> Stack
-    requires { ⌜ (0 < stack .top) × (stack .top ≤ 128) ⌝ }
-    ensures { λ r. ⌜ (r .top + 1 ≡ stack .top) × ((ws : List ℕ) → Held (now (table .entry)) stack ws → Held (now (table .exit)) r (word ∷ ws)) ⌝ }
-{
-    let top = stack.top - 1;
-    table[top] = word;
-    Stack {
-        top,
-        first: word,
-        second: stack.first,
-    }
-}
-
-// A word in place of the two on top.
-fn merge(table: &mut [u64; 128], stack: Stack, word: u64) -> Stack
-    requires { ⌜ stack .top + 1 < 128 ⌝ }
-    ensures { λ r. ⌜ (r .top ≡ stack .top + 1)
-        × ((x y : ℕ) (ws : List ℕ) → Held (now (table .entry)) stack (x ∷ y ∷ ws) → Held (now (table .exit)) r (word ∷ ws)) ⌝ }
-{
-    let top = stack.top + 1;
-    let second = table[(top + 1) % 128];
-    table[top] = word;
-    Stack {
-        top,
-        first: word,
-        second,
-    }
 }
 
 // What a step of the pass gives: the stack after the node; or that the pass is off.
@@ -313,23 +266,6 @@ fn pass(
         }
     }
     ended(header, Symbol(symbols[0]), stack)
-}
-
-// Whether a tree is accepted; or that it is not known.
-pub enum Verdict {
-    Accepted,
-    Other,
-    Unknown,
-}
-
-fn verdict_of(accepted: bool) -> Verdict
-    ensures { λ r. ⌜ ((A : Automaton) (sg : Signature) (s : List ℕ) (t : Tree) → Writes sg s t → accepted ≡ accepts? A t → Tells A sg s r) ⌝ }
-{
-    if accepted {
-        Verdict::Accepted
-    } else {
-        Verdict::Other
-    }
 }
 
 // Whether a branch is accepted, from the overloops of its parts.

@@ -12,6 +12,7 @@ use Rattle.model.specs.Trees.{Tree}
 use Rattle.model.specs.declared.Side.{Side}
 use Rattle.algorithms.specs.Automaton.{Automaton}
 use Rattle.algorithms.specs.Overloops.{accepts?}
+use Rattle.automaton.specs.File.{signatureIn}
 use Rattle.automaton.specs.declared.Header.{Header}
 use Rattle.blocks.specs.Blocks.{content}
 use Rattle.nodes.specs.Preorder.{Writes}
@@ -24,9 +25,8 @@ use Rattle.overloops.specs.Ready.{Headed}
 use Rattle.membership.proofs.Laws.{judged-nodes}
 use Rattle.determinization.specs.Cache.{indices, CachedIn, Kept}
 use Rattle.determinization.proofs.Empty.{all-zero, empty, kept-cache}
-use Rattle.bottom_up.specs.Steps.{signatureIn}
-use Rattle.bottom_up.specs.Verdicts.{Tells}
-use Rattle.bottom_up.specs.declared.Verdict.{Verdict}
+use Rattle.passes.specs.Verdicts.{Tells}
+use Rattle.passes.specs.declared.Verdict.{Verdict}
 use Rattle.judging.specs.Verdicts.{Judges}
 
 module _ (A : Automaton) (h : Header) (table : List ℕ) (k : Headed A h table) (s buffer : List ℕ) (n : ℕ) (u : Unpacked s n buffer) where

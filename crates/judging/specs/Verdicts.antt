@@ -1,4 +1,4 @@
--- What judging by classes tells of a tree's file: what judging answers; or nothing.
+-- What judging by a pass over the nodes tells of a tree's file: what judging answers; or nothing.
 -- Interface: `Judges`.
 use Prim.Native.Nat.{ℕ}
 use mathlib.Core.Path.{_≡_}
@@ -6,7 +6,7 @@ use mathlib.Core.List.{List}
 use Rattle.algorithms.specs.Automaton.{Automaton}
 use Rattle.membership.specs.Judged.{judgedBy}
 use Rattle.membership.specs.declared.Answer.{Answer}
-use Rattle.bottom_up.specs.declared.Verdict.{Verdict}
+use Rattle.passes.specs.declared.Verdict.{Verdict}
 
 abbrev pub Judges : Automaton → (s : List ℕ) → Verdict → Type 0
 Judges A s Verdict.Accepted = Answer.Accepted ≡ judgedBy A s

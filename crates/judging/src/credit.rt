@@ -10,11 +10,11 @@ ghost use lib.ListN.{length, getD};
 ghost use Rattle.algorithms.specs.Automaton.{Automaton};
 ghost use Rattle.determinization.specs.Cache.{CachedIn, Kept};
 
-// The blocks of a file, by which its credit goes.
-pub fn blocks_in(file: &[u8]) -> u32
+// How large a node list is, about the blocks of its file, by which its credit goes.
+pub fn blocks_of(symbols: &[u8]) -> u32
     ensures { λ r. ⌜ r < 16 ⌝ }
 {
-    (file.len() / 512 % 16) as u32
+    (symbols.len() / 512 % 15) as u32 + 1
 }
 
 // What a tree that the cache judged adds: the more, the longer a search would have taken.

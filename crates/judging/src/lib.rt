@@ -1,54 +1,66 @@
 // Judging trees' files by an automaton that was read: one by a search over configurations, many by a cache of the classes of their subtrees, and by
-// the search where that does not pay.
+// the search where that does not pay. Either goes over the nodes of a file that lines 1 to 6 pass, and finds out itself whether they write a tree.
 pub mod credit;
 
 use crate::credit::begin;
-use crate::credit::blocks_in;
+use crate::credit::blocks_of;
 use crate::credit::end;
 use crate::credit::gain;
 use crate::credit::renew;
 use automaton::Header;
 use automaton::file::Parsed;
-use bottom_up::Verdict;
-use bottom_up::judge_nodes;
 use determinization::Cells;
 use determinization::Counts;
 use determinization::Hints;
 use determinization::IndexMaps;
 use determinization::Store;
 use membership::Answer;
-use model::Signature;
+use passes::Verdict;
 use transitions::TransitionTable;
-use tree::file::ParsedTree;
 ghost use mathlib.Core.Path.{_≡_};
+ghost use Prim.Native.Nat.{_<_, _≤_};
+ghost use lib.ListN.{length};
 ghost use Rattle.algorithms.specs.Automaton.{Automaton};
-ghost use Rattle.automaton.specs.File.{WithinLimits};
+ghost use Rattle.automaton.specs.File.{WithinLimits, signatureIn};
 ghost use Rattle.overloops.specs.Ready.{Headed};
+ghost use Rattle.passes.specs.Verdicts.{Tells};
 ghost use Rattle.membership.specs.Judged.{judgedBy, judged};
 ghost use Rattle.membership.specs.Demand2.{Demand2};
 ghost use Rattle.determinization.specs.Cache.{CachedIn};
 ghost use Rattle.judging.specs.Verdicts.{Judges};
 
-// Judges a tree's file by a search over the configurations of the automaton on it.
+// Judges a tree's file by a search over the configurations of the automaton on it: not known where the file is refused.
+fn by_search(header: Header, table: &TransitionTable, file: &[u8]) -> Verdict
+    requires { ⌜ WithinLimits header ⌝ }
+    ensures { λ r. ⌜ ((A : Automaton) → Headed A header (now (table .entry)) → Judges A (now (file .entry)) r) ⌝ }
+{
+    let mut buffer = [0u8; 4572];
+    let k = tree::file::unpack(file, &mut buffer);
+    if k == 0 {
+        return Verdict::Unknown;
+    }
+    let last = 4 + k;
+    reachability::judge_nodes(&buffer[4..last], header, table)
+}
+
+// The answer of a verdict; where it is not known, of the function that tells every refusal.
+fn answer_of(verdict: Verdict, header: Header, table: &TransitionTable, file: &[u8]) -> Answer
+    requires { ⌜ WithinLimits header ⌝ }
+    ensures { λ r. ⌜ ((A : Automaton) → Headed A header (now (table .entry)) → Judges A (now (file .entry)) verdict → r ≡ judgedBy A (now (file .entry))) ⌝ }
+{
+    match verdict {
+        Verdict::Accepted => Answer::Accepted,
+        Verdict::Other => Answer::Other,
+        Verdict::Unknown => membership::judge_file(header, table, file),
+    }
+}
+
+// Judges a tree's file by the search.
 pub fn judge_file(header: Header, table: &TransitionTable, file: &[u8]) -> Answer
     requires { ⌜ WithinLimits header ⌝ }
     ensures { λ r. ⌜ ((A : Automaton) → Headed A header (now (table .entry)) → r ≡ judgedBy A (now (file .entry))) ⌝ }
 {
-    let mut nodes = [0u8; 4096];
-    let signature = Signature {
-        symbols: header.symbols,
-        branches: header.branches,
-    };
-    match tree::file::read_tree(file, signature, &mut nodes) {
-        ParsedTree::Refused(refusal) => Answer::Refused(refusal),
-        ParsedTree::Nodes(k) => {
-            if reachability::accepts(&nodes[..k], header, table) {
-                Answer::Accepted
-            } else {
-                Answer::Other
-            }
-        }
-    }
+    answer_of(by_search(header, table, file), header, table, file)
 }
 
 // Judges a tree's file by an automaton's file.
@@ -63,8 +75,45 @@ pub fn judge(automaton: &[u8], tree: &[u8]) -> Answer
     }
 }
 
-// Judges a tree's file by a cache: not known where the file is refused, or brings more classes than there is room for.
-fn by_classes(
+// Whether the tree of a node list is accepted, by a cache, and by the search where that does not tell or the cache rests.
+fn judge_nodes(
+    symbols: &[u8],
+    header: Header,
+    table: &TransitionTable,
+    counts: &mut Counts,
+    store: &mut Store,
+    maps: &mut IndexMaps,
+    cells: &mut Cells,
+    hints: &mut Hints,
+) -> Verdict
+    requires { ⌜ (0 < length (now symbols)) × (length (now symbols) ≤ 4096) × WithinLimits header ⌝ }
+    ensures { λ r. ⌜ ((A : Automaton) → Headed A header (now (table .entry))
+        → CachedIn A (now (counts .entry)) (now (store .entry)) (now (maps .entry)) (now (cells .entry))
+        → CachedIn A (now (counts .exit)) (now (store .exit)) (now (maps .exit)) (now (cells .exit)) × Tells A (signatureIn header) (now (symbols .entry)) r) ⌝ }
+{
+    let blocks = blocks_of(symbols);
+    if !begin(counts, blocks) {
+        return reachability::judge_nodes(symbols, header, table);
+    }
+    match bottom_up::judge_nodes(symbols, header, table, counts, store, maps, cells, hints) {
+        Verdict::Accepted => {
+            end(counts, gain(blocks));
+            Verdict::Accepted
+        }
+        Verdict::Other => {
+            end(counts, gain(blocks));
+            Verdict::Other
+        }
+        Verdict::Unknown => {
+            end(counts, blocks);
+            renew(counts, maps, cells);
+            reachability::judge_nodes(symbols, header, table)
+        }
+    }
+}
+
+// Judges a tree's file by the cache or the search: not known where the file is refused.
+fn by_cache(
     header: Header,
     table: &TransitionTable,
     file: &[u8],
@@ -97,7 +146,7 @@ fn by_classes(
     )
 }
 
-// Judges a tree's file by a cache, and by the search where that does not tell or the cache rests.
+// Judges a tree's file by an automaton that was read and a cache.
 pub fn judge_with(
     header: Header,
     table: &TransitionTable,
@@ -113,23 +162,6 @@ pub fn judge_with(
         → CachedIn A (now (counts .entry)) (now (store .entry)) (now (maps .entry)) (now (cells .entry))
         → CachedIn A (now (counts .exit)) (now (store .exit)) (now (maps .exit)) (now (cells .exit)) × (r ≡ judgedBy A (now (file .entry)))) ⌝ }
 {
-    let blocks = blocks_in(file);
-    if !begin(counts, blocks) {
-        return judge_file(header, table, file);
-    }
-    match by_classes(header, table, file, counts, store, maps, cells, hints) {
-        Verdict::Accepted => {
-            end(counts, gain(blocks));
-            Answer::Accepted
-        }
-        Verdict::Other => {
-            end(counts, gain(blocks));
-            Answer::Other
-        }
-        Verdict::Unknown => {
-            end(counts, blocks);
-            renew(counts, maps, cells);
-            judge_file(header, table, file)
-        }
-    }
+    let verdict = by_cache(header, table, file, counts, store, maps, cells, hints);
+    answer_of(verdict, header, table, file)
 }

@@ -22,10 +22,10 @@ use Rattle.links.proofs.Storing.{parents-length, rights-length}
 
 -- the part of a list that its left and its right part have
 module _ {A : Type 0} (d x : A) (ys zs : List A) where
-  left-part : (i k : ℕ) → i ≡ suc k → k < length ys → getD (x ∷ (ys ++ zs)) i d ≡ getD ys k d
+  pub left-part : (i k : ℕ) → i ≡ suc k → k < length ys → getD (x ∷ (ys ++ zs)) i d ≡ getD ys k d
   left-part i k e h = ap (λ (n : ℕ). getD (x ∷ (ys ++ zs)) n d) e ∙ List·getD-append ys zs d k h
 
-  right-part : (i k : ℕ) → i ≡ suc (length ys + k) → getD (x ∷ (ys ++ zs)) i d ≡ getD zs k d
+  pub right-part : (i k : ℕ) → i ≡ suc (length ys + k) → getD (x ∷ (ys ++ zs)) i d ≡ getD zs k d
   right-part i k e = ap (λ (n : ℕ). getD (x ∷ (ys ++ zs)) n d) e ∙ getD-append-add ys zs k d
 
 -- the positions of the nodes, in preorder
@@ -110,7 +110,7 @@ part {t} (to-right {i = j} {α = α} {σ = σ} {l = l} {r = r} n) =
 
 -- ---- what stands at a node itself
 
-head-parent : (up j : ℕ) (u : Tree) → getD (parentsFrom up j u) 0 0 ≡ up
+pub head-parent : (up j : ℕ) (u : Tree) → getD (parentsFrom up j u) 0 0 ≡ up
 unfolding parentsFrom
 head-parent up j (leaf σ) = refl
 head-parent up j (node σ l r) = refl
@@ -129,7 +129,7 @@ head-leaf : (j σ : ℕ) → getD (rightsFrom j (leaf σ)) 0 0 ≡ 0
 unfolding rightsFrom
 head-leaf j σ = refl
 
-head-right : (j σ : ℕ) (l r : Tree) → getD (rightsFrom j (node σ l r)) 0 0 ≡ j + 1 + size l
+pub head-right : (j σ : ℕ) (l r : Tree) → getD (rightsFrom j (node σ l r)) 0 0 ≡ j + 1 + size l
 unfolding rightsFrom
 head-right j σ l r = refl
 

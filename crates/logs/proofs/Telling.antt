@@ -21,7 +21,7 @@ use Rattle.links.proofs.Tabling.{tables-are}
 use Rattle.tree.specs.File.{nodesOf, readTree}
 use Rattle.tree.specs.declared.file.ParsedTree.{ParsedTree}
 use Rattle.overloops.specs.Ready.{Headed}
-use Rattle.membership.proofs.Laws.{below-at}
+use Rattle.nodes.proofs.Signatures.{below-at}
 use Rattle.watch.specs.Following.{Held}
 use Rattle.watch.proofs.Holding.{nodes-long, few-nodes, symbols-low, symbols-below}
 use Rattle.watch.proofs.Telling.{signature, signature-is}

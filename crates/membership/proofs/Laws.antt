@@ -1,12 +1,10 @@
 -- The answer from the loops at the root; what is known of a tree that was read.
 -- Assumes nothing.
-use Prim.Native.Nat.{ℕ, zero, suc, _≤_, _<_}
+use Prim.Native.Nat.{ℕ}
 use mathlib.Core.Path.{_≡_}
 use mathlib.Core.Bool.{Bool}
-use mathlib.Core.List.{List, [], _∷_}
-use native.Mathlib.Decide.{decLt}
-use native.Mathlib.Omega.{arith}
-use lib.ListN.{length, getD, take, List·getD-eq-default}
+use mathlib.Core.List.{List}
+use lib.ListN.{take}
 use Rattle.relation.specs.Rows.{meeting}
 use Rattle.model.specs.Trees.{Tree}
 use Rattle.model.specs.declared.Place.{Place}
@@ -15,14 +13,13 @@ use Rattle.algorithms.specs.Overloops.{loops, accepts?}
 use Rattle.model.specs.declared.Signature.{Signature}
 use Rattle.refusal.specs.declared.Refusal.{Refusal}
 use Rattle.automaton.specs.declared.Header.{Header}
+use Rattle.automaton.specs.File.{signatureIn}
 use Rattle.overloops.specs.Ready.{Headed}
 use Rattle.overloops.proofs.Laws.{accepted-by}
-use Rattle.nodes.specs.Preorder.{Writes, Below}
 use Rattle.blocks.specs.Blocks.{content}
 use Rattle.tree.specs.File.{nodesOf, readTree, nodesAfter}
 use Rattle.nodes.specs.Nodes.{treeOf}
 use Rattle.tree.proofs.Reading.{TreeRead, nodes-front}
-use Rattle.nodes.proofs.Signatures.{shaped-over}
 use Rattle.tree.specs.declared.file.ParsedTree.{ParsedTree}
 use Rattle.membership.specs.Judged.{signatureOf, acceptedIf, judgedBy}
 use Rattle.membership.specs.declared.Answer.{Answer}
@@ -32,33 +29,12 @@ pub accepts-by : (A : Automaton) (t : Tree) (initial final : ℕ) (rows : List �
 unfolding accepts?
 accepts-by A t initial final rows b i f l m = accepted-by A initial final rows (loops A Place.Root t) b i f l m
 
--- each symbol of a list whose symbols are below their count
-pub below-at : (m : ℕ) (s : List ℕ) → Below m s → (i : ℕ) → i < length s → getD s i 0 < m
-unfolding Below
-below-at m [] h i l = absurd (omega arith)
-below-at m (σ ∷ s) h zero l = h .0
-below-at m (σ ∷ s) h (suc i) l = below-at m s (h .1) i (omega arith)
-
--- where the count is at most 32 it is below 32, and so is what stands past the end
-below-32 : (m : ℕ) (s : List ℕ) → m ≤ 32 → Below m s → (i : ℕ) → getD s i 0 < 32
-below-32 m s l h i = by (decLt i (length s))
-  where
-    by : Dec (i < length s) → getD s i 0 < 32
-    by (yes k) = omega (arith, below-at m s h i k)
-    by (no k) = rw (List·getD-eq-default s 0 {n = i} (omega arith)) (omega arith)
-
-pub written-below : (sg : Signature) (s : List ℕ) (t : Tree) → sg .symbols ≤ 32 → Writes sg s t → (i : ℕ) → getD s i 0 < 32
-written-below sg s t l w = below-32 (sg .symbols) s l (rw (w .text) (shaped-over sg t (w .over) .1))
-
 -- what reading leaves at the front of the buffer
 pub front-is : (sg : Signature) (s : List ℕ) (k : ℕ) (buffer after : List ℕ) (r : ParsedTree) → r ≡ ParsedTree.Nodes k → after ≡ nodesAfter r s buffer
     → TreeRead sg s k → take k after ≡ nodesOf k (content s)
 front-is sg s k buffer after r e f t = rw (f, e) (nodes-front sg s k buffer t)
 
 -- ---- the answer by an automaton, where its header's signature is read against
-
-abbrev signatureIn : Header → Signature
-signatureIn h = record { symbols = h .symbols; branches = h .branches }
 
 module _ (A : Automaton) (h : Header) (t : List ℕ) (k : Headed A h t) (s : List ℕ) where
   read-by : (r : ParsedTree) → readTree (signatureIn h) s ≡ r → readTree (signatureOf A) s ≡ r

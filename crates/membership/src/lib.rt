@@ -1,12 +1,12 @@
 // Membership: whether an automaton accepts a tree, by the overloops of its parts, from the leaves up.
 use algorithms::is_branch;
 use automaton::Header;
-use automaton::file::Parsed;
 use model::Place;
 use model::Side;
 use model::Signature;
 use model::Symbol;
 use overloops::LeafTable;
+use overloops::fill_leaves;
 use overloops::leaf_loops;
 use overloops::leaf_overloops;
 use overloops::node_loops;
@@ -24,9 +24,8 @@ ghost use Rattle.algorithms.specs.Overloops.{overloops, loops, accepts?};
 ghost use Rattle.nodes.specs.Preorder.{Stands};
 ghost use Rattle.automaton.specs.File.{WithinLimits};
 ghost use Rattle.overloops.specs.Tables.{Tabled, Leaves};
-ghost use Rattle.overloops.specs.Ready.{Ready};
-ghost use Rattle.membership.specs.Judged.{judgedBy, judged};
-ghost use Rattle.membership.specs.Demand2.{Demand2};
+ghost use Rattle.overloops.specs.Ready.{Headed};
+ghost use Rattle.membership.specs.Judged.{judgedBy};
 
 // What judging answers: accepted, judged and not accepted, or refused.
 pub enum Answer {
@@ -121,28 +120,25 @@ fn root_loops(
 }
 
 // Whether the automaton accepts the tree that a node list writes.
-fn accepts(symbols: &[u8], header: Header, table: &TransitionTable, leaves: &LeafTable) -> bool
+fn accepts(symbols: &[u8], header: Header, table: &TransitionTable) -> bool
     requires { ⌜ (0 < length (now symbols)) × (header .states ≤ 24)
         × ((i : ℕ) → getD (now symbols) i 0 < 32) ⌝ }
-    ensures { λ r. ⌜ ((A : Automaton) → Ready A header (now (table .entry)) (now (leaves .entry))
+    ensures { λ r. ⌜ ((A : Automaton) → Headed A header (now (table .entry))
         → (t : Tree) → Stands (header .branches) (now (symbols .entry)) 0 t → r ≡ accepts? A t) ⌝ }
 {
     let states = header.states as usize;
-    root_loops(symbols, header.branches, states, table, leaves).meets(
+    let mut leaves = [0u32; 1536];
+    fill_leaves(table, states, &mut leaves);
+    root_loops(symbols, header.branches, states, table, &leaves).meets(
         header.initial,
         header.accepting,
     )
 }
 
-// Judges a tree's file by an automaton that was prepared.
-pub fn judge_file(
-    header: Header,
-    table: &TransitionTable,
-    leaves: &LeafTable,
-    file: &[u8],
-) -> Answer
+// Judges a tree's file by an automaton that was read.
+pub fn judge_file(header: Header, table: &TransitionTable, file: &[u8]) -> Answer
     requires { ⌜ WithinLimits header ⌝ }
-    ensures { λ r. ⌜ ((A : Automaton) → Ready A header (now (table .entry)) (now (leaves .entry)) → r ≡ judgedBy A (now (file .entry))) ⌝ }
+    ensures { λ r. ⌜ ((A : Automaton) → Headed A header (now (table .entry)) → r ≡ judgedBy A (now (file .entry))) ⌝ }
 {
     let mut nodes = [0u8; 4096];
     let signature = Signature {
@@ -152,24 +148,11 @@ pub fn judge_file(
     match tree::file::read_tree(file, signature, &mut nodes) {
         ParsedTree::Refused(refusal) => Answer::Refused(refusal),
         ParsedTree::Nodes(k) => {
-            if accepts(&nodes[..k], header, table, leaves) {
+            if accepts(&nodes[..k], header, table) {
                 Answer::Accepted
             } else {
                 Answer::Other
             }
         }
-    }
-}
-
-// Judges a tree's file by an automaton's file.
-pub fn judge(automaton: &[u8], tree: &[u8]) -> Answer
-    ensures equals { λ r. ⌜ r ≡ judged (now (automaton .entry)) (now (tree .entry)) ⌝ }
-    ensures right { λ r. ⌜ Demand2 (now (automaton .entry)) (now (tree .entry)) r ⌝ }
-{
-    let mut table = [0u32; 9216];
-    let mut leaves = [0u32; 1536];
-    match overloops::prepare(automaton, &mut table, &mut leaves) {
-        Parsed::Refused(refusal) => Answer::Refused(refusal),
-        Parsed::Read(header) => judge_file(header, &table, &leaves, tree),
     }
 }

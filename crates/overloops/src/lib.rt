@@ -9,7 +9,7 @@ use relation::Relation;
 use transitions::TransitionTable;
 ghost use mathlib.Core.Path.{_≡_};
 ghost use Prim.Native.Nat.{_+_, _<_, _≤_};
-ghost use lib.ListN.{length, take, drop};
+ghost use lib.ListN.{length, take, drop, replicate};
 ghost use Rattle.algorithms.specs.Automaton.{Automaton, Proper};
 ghost use Rattle.algorithms.specs.Overloops as spec;
 ghost use Rattle.transitions.specs.Compiled.{Compiled};
@@ -201,7 +201,7 @@ fn put_leaf(table: &TransitionTable, states: usize, symbol: Symbol, side: Side, 
 }
 
 // Fills the table of leaves.
-fn fill_leaves(table: &TransitionTable, states: usize, leaves: &mut [u32])
+pub fn fill_leaves(table: &TransitionTable, states: usize, leaves: &mut [u32])
     requires { ⌜ (states ≤ 24) × (length (now leaves) ≡ 1536) ⌝ }
     ensures { λ _. ⌜ ((A : Automaton) → Tabled A states (now (table .entry)) → Leaves A (now (leaves .exit))) ⌝ }
 {
@@ -211,8 +211,9 @@ fn fill_leaves(table: &TransitionTable, states: usize, leaves: &mut [u32])
     }
 }
 
-// Reads an automaton's file and prepares its tables. A refused file leaves both as they were.
+// Reads an automaton's file and prepares its tables, of which that of the transitions begins as zeros. A refused file leaves both as they were.
 pub fn prepare(file: &[u8], table: &mut TransitionTable, leaves: &mut LeafTable) -> Parsed
+    requires { ⌜ now table ≡ replicate 9216 0 ⌝ }
     ensures { λ r. ⌜ (r ≡ parsed (now (file .entry)))
         × PreparedAfter r (now (file .entry)) (now (table .entry)) (now (leaves .entry)) (now (table .exit)) (now (leaves .exit)) ⌝ }
 {

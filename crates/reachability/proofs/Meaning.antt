@@ -1,68 +1,39 @@
 -- What the search finds, in terms of runs: the configurations that are reached by node numbers are those of the model's runs, so the root is reached
 -- in a final state exactly where the automaton accepts the tree.
 -- Assumes nothing.
-use Prim.Native.Nat.{ℕ, zero, suc, _+_, _-_, _≤_, _<_}
-use native.Mathlib.Decide.{decLt}
+use Prim.Native.Nat.{ℕ, _≤_, _<_}
 use native.Mathlib.Omega.{arith}
 use mathlib.Core.Path.{_≡_, refl, sym, ap, _∙_, subst}
 use mathlib.Core.Logic.{_↔_}
 use mathlib.Core.Bool.{Bool, true, false}
-use mathlib.Core.List.{List, [], _++_}
+use mathlib.Core.List.{List, []}
 use lib.Dec.{T}
-use lib.ListN.{length, getD, drop, List·getD-append}
-use lib.Seq.{getD-append-add}
+use lib.ListN.{length, getD}
 use Rattle.model.specs.declared.Place.the-variants.{Root}
-use Rattle.model.specs.Trees.{Tree, node, size}
+use Rattle.model.specs.Trees.{Tree, size}
 use Rattle.model.specs.Runs.{Position, Config, Run, done, _then_}
 use Rattle.model.proofs.RunLaws.{_followed-by_}
 use Rattle.algorithms.specs.Automaton.{Automaton, In, Δ, Accepted, Proper}
 use Rattle.algorithms.specs.Overloops.{accepts?}
 use Rattle.algorithms.proofs.OverloopLaws.{accepts-has}
+use Rattle.model.specs.declared.Signature.{Signature}
+use Rattle.automaton.specs.File.{signatureIn}
 use Rattle.automaton.specs.declared.Header.{Header}
 use Rattle.transitions.specs.Compiled.{nextIn}
-use Rattle.nodes.specs.Preorder.{preorder, Stands, leafAt, nodeAt}
+use Rattle.nodes.specs.Preorder.{Writes}
+use Rattle.nodes.proofs.Signatures.{written-below}
 use Rattle.nodes.proofs.Standing.{size-preorder}
 use Rattle.links.specs.Numbers.{Numbered, first}
-use Rattle.links.specs.Links.{parentsOf, rightsOf, placeIn}
 use Rattle.links.specs.Tables.{Tables}
 use Rattle.links.proofs.Numbering.{some-nodes, number-unique, numbered-within}
 use Rattle.links.proofs.Linking.{named-once}
-use Rattle.links.proofs.Tabling.{tables-are}
-use Rattle.steps.specs.Leads.{leadsBy, someMove, leadsIn, leads}
+use Rattle.steps.specs.Leads.{leadsIn, leads}
 use Rattle.steps.proofs.Stepping.{Led, made, into-node}
 use Rattle.steps.proofs.Leading.{leads-led, led-leads, leads-read}
 use Rattle.overloops.specs.Ready.{Headed}
+use Rattle.passes.specs.Verdicts.{Tells}
+use Rattle.passes.specs.declared.Verdict.{Verdict}
 use Rattle.reachability.specs.Reached.{Reached, starts, steps, Found}
-
--- ---- a tree that stands in a list: the list has its nodes there, and may go on
-
--- the part of a preorder that follows its first node
-module _ (s : List ℕ) (at : ℕ) (l r : Tree) (left : (i : ℕ) → i < size l → getD s (at + 1 + i) 0 ≡ getD (preorder l) i 0)
-    (right : (i : ℕ) → i < size r → getD s (at + 1 + size l + i) 0 ≡ getD (preorder r) i 0) where
-  parts-read : (k : ℕ) → k < size l + size r → getD s (at + suc k) 0 ≡ getD (preorder l ++ preorder r) k 0
-  parts-read k h = go (decLt k (size l))
-    where
-      go : Dec (k < size l) → getD s (at + suc k) 0 ≡ getD (preorder l ++ preorder r) k 0
-      go (yes g) =
-          let e : at + suc k ≡ at + 1 + k = omega arith in
-          ap (λ (i : ℕ). getD s i 0) e ∙ left k g ∙ sym (List·getD-append (preorder l) (preorder r) 0 k (omega (arith, size-preorder l)))
-      go (no g) =
-          let m = k - size l in
-          let e : at + suc k ≡ at + 1 + size l + m = omega arith in
-          let f : length (preorder l) + m ≡ k = omega (arith, size-preorder l) in
-          ap (λ (i : ℕ). getD s i 0) e ∙ right m (omega arith)
-          ∙ sym (getD-append-add (preorder l) (preorder r) m 0) ∙ ap (λ (i : ℕ). getD (preorder l ++ preorder r) i 0) f
-
-stands-long : {b : ℕ} {s : List ℕ} {at : ℕ} {t : Tree} → Stands b s at t → at + size t ≤ length s
-stands-long (leafAt h p) = omega arith
-stands-long (nodeAt h p x y) = omega (arith, stands-long y)
-
-stands-read : {b : ℕ} {s : List ℕ} {at : ℕ} {t : Tree} → Stands b s at t → (i : ℕ) → i < size t → getD s (at + i) 0 ≡ getD (preorder t) i 0
-unfolding preorder
-stands-read {s = s} {at = at} (leafAt h p) zero l = let e : at + 0 ≡ at = omega arith in ap (λ (k : ℕ). getD s k 0) e
-stands-read (leafAt h p) (suc i) l = absurd (omega arith)
-stands-read {s = s} {at = at} (nodeAt h p x y) zero l = let e : at + 0 ≡ at = omega arith in ap (λ (k : ℕ). getD s k 0) e
-stands-read {s = s} {at = at} (nodeAt {l = l} {r = r} h p x y) (suc k) m = parts-read s at l r (λ i g. stands-read x i g) (λ i g. stands-read y i g) k (omega arith)
 
 -- ---- runs
 
@@ -134,28 +105,19 @@ same-test true false f g = absurd (f refl)
 same-test false true f g = g tt
 same-test false false f g = refl
 
-pub answer : (A : Automaton) (h : Header) (table s P Q before before′ : List ℕ) → length s ≤ 4096 → ((i : ℕ) → getD s i 0 < 32) → Headed A h table
-    → (t : Tree) → Stands (h .branches) s 0 t → (P ≡ parentsOf t ++ drop (size t) before) × (Q ≡ rightsOf t ++ drop (size t) before′)
+pub answer : (A : Automaton) (h : Header) (table s P Q : List ℕ) → ((i : ℕ) → getD s i 0 < 32) → Headed A h table → (t : Tree) → Tables t s P Q
     → (r : Bool) → (r ≡ true) ↔ Found (nextIn table) s P Q (h .initial) (h .accepting) → r ≡ accepts? A t
-answer A h table s P Q before before′ few low k t stands links r told =
+answer A h table s P Q low k t tables r told =
     same-test r (accepts? A t) (λ e. right .1 (same .0 (of (told .0 e)))) (λ e. told .1 (to (same .1 (right .0 e))))
   where
     proper : Proper A
     proper = k .tabled .proper
 
     long : size t ≤ length s
-    long = omega (arith, stands-long stands)
-
-    nodes-are : (i : ℕ) → i < size t → getD s i 0 ≡ getD (preorder t) i 0
-    nodes-are i l = let e : i ≡ 0 + i = omega arith in ap (λ (j : ℕ). getD s j 0) e ∙ stands-read stands i l
-
-    tables : Tables t (preorder t) P Q
-    tables = tables-are t (preorder t) P Q before before′ (omega (arith, long, few)) refl links
+    long = omega (arith, ap length (tables .nodes-are) ∙ size-preorder t)
 
     read : Read A proper t table s P Q
-    read i p j q l states =
-        ap (λ (σ : ℕ). someMove (leadsBy (nextIn table) P Q σ (placeIn P i) i p j q)) (nodes-are i l)
-        ∙ leads-read A (k .tabled .compiled) tables i l (subst (λ (σ : ℕ). σ < 32) (nodes-are i l) (low i)) p states j q
+    read i p j q l states = leads-read A (k .tabled .compiled) tables i l (low i) p states j q
 
     right : T (accepts? A t) ↔ Accepted A t
     right = accepts-has A proper t
@@ -168,3 +130,10 @@ answer A h table s P Q before before′ few low k t stands links r told =
 
     to : Found (nextIn table) s P Q (A .initial) (A .accepting) → Found (nextIn table) s P Q (h .initial) (h .accepting)
     to f = rw (k .initial, k .accepting) at f
+
+-- the list that was linked and searched
+pub told : (A : Automaton) (h : Header) (table s P Q : List ℕ) → h .symbols ≤ 32 → Headed A h table → (x : (t : Tree) × Writes (signatureIn h) s t × Tables t s P Q)
+    → (r : Bool) → (r ≡ true) ↔ Found (nextIn table) s P Q (h .initial) (h .accepting) → (v : Verdict)
+    → ((A : Automaton) (sg : Signature) (s : List ℕ) (t : Tree) → Writes sg s t → r ≡ accepts? A t → Tells A sg s v) → Tells A (signatureIn h) s v
+told A h table s P Q few k x r found v tells =
+    tells A (signatureIn h) s (x .0) (x .1) (answer A h table s P Q (written-below _ s (x .0) few (x .1)) k (x .0) (x .2) r found)

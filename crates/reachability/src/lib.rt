@@ -1,10 +1,13 @@
 // Whether an automaton accepts a tree, by a search over its configurations: a word of states for each node, by its preorder index.
 use automaton::Header;
-use links::link;
+use linking::link_tree;
 use links::place_at;
 use model::Move;
+use model::Signature;
 use model::State;
 use model::Symbol;
+use passes::Verdict;
+use passes::verdict_of;
 use relation::lowest;
 use relation::without_lowest;
 use transitions::TransitionTable;
@@ -15,14 +18,13 @@ ghost use mathlib.Core.Logic.{_↔_};
 ghost use mathlib.Core.List.{[]};
 ghost use Prim.Native.Nat.{ℕ, _+_, _<_, _≤_};
 ghost use lib.ListN.{length, getD};
-ghost use Rattle.model.specs.Trees.{Tree};
 ghost use Rattle.model.specs.declared.Side.the-variants.{Left, Right};
 ghost use Rattle.model.specs.declared.Move.the-variants.{Up, Down};
 ghost use Rattle.algorithms.specs.Automaton.{Automaton};
-ghost use Rattle.algorithms.specs.Overloops.{accepts?};
+ghost use Rattle.automaton.specs.File.{signatureIn};
 ghost use Rattle.transitions.specs.Compiled.{nextIn};
-ghost use Rattle.nodes.specs.Preorder.{Stands};
 ghost use Rattle.overloops.specs.Ready.{Headed};
+ghost use Rattle.passes.specs.Verdicts.{Tells};
 ghost use Rattle.reachability.specs.Reached.{Found};
 ghost use Rattle.reachability.specs.Growth.{Image, Spread, Here, Sent, Either};
 ghost use Rattle.reachability.specs.Searched.{Turned, Swept};
@@ -267,18 +269,23 @@ fn search(
 }
 
 // The search on a tree of at most 512 nodes: a local array begins as zeros, and less is cleared.
-fn accepts_small(symbols: &[u8], header: Header, table: &TransitionTable) -> bool
-    requires { ⌜ (0 < length (now symbols)) × (length (now symbols) ≤ 512) × ((i : ℕ) → getD (now symbols) i 0 < 32) ⌝ }
-    ensures { λ r. ⌜ ((A : Automaton) → Headed A header (now (table .entry)) → (t : Tree) → Stands (header .branches) (now (symbols .entry)) 0 t
-        → r ≡ accepts? A t) ⌝ }
+fn judge_small(symbols: &[u8], header: Header, table: &TransitionTable) -> Verdict
+    requires { ⌜ (0 < length (now symbols)) × (length (now symbols) ≤ 512) × (header .symbols ≤ 32) ⌝ }
+    ensures { λ r. ⌜ ((A : Automaton) → Headed A header (now (table .entry)) → Tells A (signatureIn header) (now (symbols .entry)) r) ⌝ }
 {
     let mut parents = [0u16; 512];
     let mut rights = [0u16; 512];
+    let signature = Signature {
+        symbols: header.symbols,
+        branches: header.branches,
+    };
+    if !link_tree(symbols, signature, &mut parents, &mut rights) {
+        return Verdict::Unknown;
+    }
     let mut reached = [0u32; 512];
     let mut fresh = [0u32; 512];
     let mut waiting = [0u16; 512];
-    link(symbols, header.branches, &mut parents, &mut rights);
-    search(
+    verdict_of(search(
         symbols,
         header,
         table,
@@ -287,22 +294,27 @@ fn accepts_small(symbols: &[u8], header: Header, table: &TransitionTable) -> boo
         &mut reached,
         &mut fresh,
         &mut waiting,
-    )
+    ))
 }
 
 // The search on any tree of at most 4,096.
-fn accepts_large(symbols: &[u8], header: Header, table: &TransitionTable) -> bool
-    requires { ⌜ (0 < length (now symbols)) × (length (now symbols) ≤ 4096) × ((i : ℕ) → getD (now symbols) i 0 < 32) ⌝ }
-    ensures { λ r. ⌜ ((A : Automaton) → Headed A header (now (table .entry)) → (t : Tree) → Stands (header .branches) (now (symbols .entry)) 0 t
-        → r ≡ accepts? A t) ⌝ }
+fn judge_large(symbols: &[u8], header: Header, table: &TransitionTable) -> Verdict
+    requires { ⌜ (0 < length (now symbols)) × (length (now symbols) ≤ 4096) × (header .symbols ≤ 32) ⌝ }
+    ensures { λ r. ⌜ ((A : Automaton) → Headed A header (now (table .entry)) → Tells A (signatureIn header) (now (symbols .entry)) r) ⌝ }
 {
     let mut parents = [0u16; 4096];
     let mut rights = [0u16; 4096];
+    let signature = Signature {
+        symbols: header.symbols,
+        branches: header.branches,
+    };
+    if !link_tree(symbols, signature, &mut parents, &mut rights) {
+        return Verdict::Unknown;
+    }
     let mut reached = [0u32; 4096];
     let mut fresh = [0u32; 4096];
     let mut waiting = [0u16; 4096];
-    link(symbols, header.branches, &mut parents, &mut rights);
-    search(
+    verdict_of(search(
         symbols,
         header,
         table,
@@ -311,17 +323,17 @@ fn accepts_large(symbols: &[u8], header: Header, table: &TransitionTable) -> boo
         &mut reached,
         &mut fresh,
         &mut waiting,
-    )
+    ))
 }
 
-// Whether the automaton accepts the tree that a node list writes, by the configurations that are reached from the root in its start states.
-pub fn accepts(symbols: &[u8], header: Header, table: &TransitionTable) -> bool
-    requires { ⌜ (0 < length (now symbols)) × (length (now symbols) ≤ 4096) × (header .states ≤ 24) × ((i : ℕ) → getD (now symbols) i 0 < 32) ⌝ }
-    ensures { λ r. ⌜ ((A : Automaton) → Headed A header (now (table .entry)) → (t : Tree) → Stands (header .branches) (now (symbols .entry)) 0 t
-        → r ≡ accepts? A t) ⌝ }
+// Whether the automaton accepts the tree that a node list writes, by the configurations that are reached from the root in its start states; not
+// known where the list is not linked.
+pub fn judge_nodes(symbols: &[u8], header: Header, table: &TransitionTable) -> Verdict
+    requires { ⌜ (0 < length (now symbols)) × (length (now symbols) ≤ 4096) × (header .symbols ≤ 32) ⌝ }
+    ensures { λ r. ⌜ ((A : Automaton) → Headed A header (now (table .entry)) → Tells A (signatureIn header) (now (symbols .entry)) r) ⌝ }
 {
     if symbols.len() <= 512 {
-        return accepts_small(symbols, header, table);
+        return judge_small(symbols, header, table);
     }
-    accepts_large(symbols, header, table)
+    judge_large(symbols, header, table)
 }

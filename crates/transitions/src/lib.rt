@@ -96,21 +96,11 @@ fn add_rule_at(content: &[u8], header: Header, i: usize, table: &mut [u32])
     add_rule(table, rule);
 }
 
-// Empties every cell.
-fn clear(table: &mut [u32])
-    ensures { λ _. ⌜ now (table .exit) ≡ replicate (length (now (table .entry))) 0 ⌝ }
-{
-    for i in 0..table.len() {
-        table[i] = 0;
-    }
-}
-
-// Fills a table with the transitions that the rules allow.
+// Fills a table of zeros with the transitions that the rules allow.
 pub fn compile(content: &[u8], header: Header, table: &mut TransitionTable)
-    requires { ⌜ LaidOut header (now content) ⌝ }
+    requires { ⌜ LaidOut header (now content) × (now table ≡ replicate 9216 0) ⌝ }
     ensures { λ _. ⌜ Compiled (automatonOf header (now (content .entry))) (now (table .exit)) ⌝ }
 {
-    clear(table);
     let rules = header.rules as usize;
     let mut i = 0;
     while i < rules {
@@ -119,8 +109,9 @@ pub fn compile(content: &[u8], header: Header, table: &mut TransitionTable)
     }
 }
 
-// Reads an automaton's file: its compiled transitions go to the table. A refused file leaves the table as it was.
+// Reads an automaton's file: its compiled transitions go to the table, which begins as zeros. A refused file leaves the table as it was.
 pub fn load(file: &[u8], table: &mut TransitionTable) -> Parsed
+    requires { ⌜ now table ≡ replicate 9216 0 ⌝ }
     ensures { λ r. ⌜ (r ≡ parsed (now (file .entry))) × Loaded r (now (file .entry)) (now (table .entry)) (now (table .exit)) ⌝ }
 {
     let mut contents = [0u8; 3048];

@@ -19,7 +19,7 @@ use Rattle.links.specs.Links.{parentsOf, rightsOf}
 use Rattle.links.proofs.Tabling.{tables-are}
 use Rattle.steps.specs.Choices.{Chosen}
 use Rattle.membership.specs.Judged.{signatureOf}
-use Rattle.membership.proofs.Laws.{below-at}
+use Rattle.nodes.proofs.Signatures.{below-at}
 use Rattle.watch.specs.Following.{Walkable, Held}
 use Rattle.watch.proofs.Starts.{one-lowest, starts-low}
 

@@ -47,7 +47,7 @@ enum-told-2 : tie.Need-enum-told-2
 enum-told-2 c = search needs
 
 returns-4 : tie.Need-returns-4
-returns-4 c = λ A count s k e h. let p = rw (c .before .before .before .before .before .before .before .passed .given .1) at h in c .verdict-of .ensures A _ s (node (p .σ) (p .l) (p .r)) (p .writes) (c .before .node-accepted .ensures A k (p .l) (p .r) (c .before .before .before .class-rows .ensures ∙ p .tells-l Side.Left) (c .before .before .class-rows2 .ensures ∙ p .tells-r Side.Right) ∙ ap (λ (σ : ℕ). accepts? A (node σ (p .l) (p .r))) (node-first _ s _ (p .σ) (p .l) (p .r) (p .writes) e))
+returns-4 c = λ A count s k e h. let p = rw (c .before .before .before .before .before .before .before .passed .given .1) at h in c .verdict-of .ensures A _ s (node (p .σ) (p .l) (p .r)) (p .writes) (c .before .node-accepted .ensures A k (p .l) (p .r) (c .before .before .before .class-rows .ensures ∙ p .tells-l .1 Side.Left) (c .before .before .class-rows2 .ensures ∙ p .tells-r .1 Side.Right) ∙ ap (λ (σ : ℕ). accepts? A (node σ (p .l) (p .r))) (node-first _ s _ (p .σ) (p .l) (p .r) (p .writes) e))
 
 returns-5 : tie.Need-returns-5
 returns-5 c = λ A count s k e h. let p = rw (c .before .before .enum-told .given .1) at h in c .verdict-of2 .ensures A _ s (leaf (p .0)) (p .1) (c .before .leaf-accepted .ensures A k ∙ ap (λ (σ : ℕ). accepts? A (leaf σ)) (leaf-first _ s _ (p .0) (p .1) e))

@@ -1,6 +1,7 @@
 -- `bottom_up::ended` meets its contract.
 -- Assumes nothing.
-use Rattle.bottom_up.proofs.Ending.{parts-ended, leaf-ended}
+use Rattle.passes.proofs.Laws.{leaf-ended}
+use Rattle.bottom_up.proofs.Ending.{parts-ended}
 use mathlib.Core.Path.{sym, _∙_}
 use native.Mathlib.Omega.{arith}
 use borrow.Author.Needs.{needs}
@@ -35,7 +36,7 @@ returns-5 : tie.Need-returns-5
 returns-5 c = search needs
 
 returns-6 : tie.Need-returns-6
-returns-6 c = λ A counts store maps cells words s h. (c .before .before .before .before .before .before .args .symbol .0, leaf-ended A _ _ counts store maps cells words s _ h (c .if5 .left) (omega (arith, c .before .before .before .if1 .left)) (sym (c .before .before .is-branch .ensures) ∙ c .before .if2 .left))
+returns-6 c = λ A counts store maps cells words s h. (c .before .before .before .before .before .before .args .symbol .0, leaf-ended _ _ words s _ (h .stacked) (c .if5 .left) (omega (arith, c .before .before .before .if1 .left)) (sym (c .before .before .is-branch .ensures) ∙ c .before .if2 .left))
 
 pub ended-spec : {M : Type 1} → statement M
 ended-spec =

@@ -25,7 +25,7 @@ push-requires : tie.Need-push-requires
 push-requires c κs = search needs
 
 returns-4 : tie.Need-returns-4
-returns-4 c = λ A sg s k small m h. let read = c .before .before .before .before .leaf-word .ensures A k (h .cached) in leaf-on A sg _ _ _ _ _ _ _ _ s _ _ _ _ _ _ _ (k .proper) h (read .0) (read .1) (omega (arith, c .before .before .before .if3 .left)) small m (c .before .packed .ensures .0) (c .before .packed .ensures .1) (c .push .ensures .1)
+returns-4 c = λ A sg s k small m h. let read = c .before .before .before .before .leaf-word .ensures A k (h .cached) in leaf-on A sg _ _ _ _ _ _ _ _ s _ _ _ _ _ _ _ (k .proper) h (read .0) (read .1) (omega (arith, c .before .before .before .if3 .left)) small m (c .before .packed .ensures) (c .push .ensures .1)
 
 pub leaf-step-spec : {M : Type 1} → statement M
 leaf-step-spec =

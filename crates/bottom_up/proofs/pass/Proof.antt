@@ -6,11 +6,13 @@ use native.Mathlib.Omega.{arith}
 use mathlib.Core.Path.{_≡_, refl, sym, _∙_}
 use lib.ListN.{length, drop}
 use Rattle.algorithms.specs.Automaton.{Automaton}
+use Rattle.automaton.specs.File.{signatureIn}
 use Rattle.overloops.specs.Tables.{Tabled}
 use Rattle.nodes.proofs.Reached.{symbol-here}
 use Rattle.determinization.specs.Cache.{CachedIn}
-use Rattle.bottom_up.specs.Steps.{signatureIn, Loaded}
-use Rattle.bottom_up.proofs.Ending.{begun, from, whole}
+use Rattle.bottom_up.specs.Steps.{Loaded}
+use Rattle.passes.proofs.Laws.{from}
+use Rattle.bottom_up.proofs.Ending.{begun, whole}
 use Rattle.bottom_up.proofs.pass.Statement.{statement}
 use Rattle.bottom_up.proofs.pass.Tie as tie
 

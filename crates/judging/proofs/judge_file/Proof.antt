@@ -1,70 +1,17 @@
--- `judging::judge_file` meets its contract: the nodes that are lent on are those of the file, whose tree stands at the first.
+-- `judging::judge_file` meets its contract.
 -- Assumes nothing.
 use borrow.Author.Needs.{needs}
-use Prim.Native.Nat.{ℕ}
-use mathlib.Core.Path.{_≡_, sym, ap, _∙_}
-use mathlib.Core.Bool.{true, false}
-use mathlib.Core.List.{List}
-use native.Mathlib.Omega.{arith}
-use lib.ListN.{length, take, length-take}
-use Rattle.model.specs.declared.Signature.{Signature}
-use Rattle.algorithms.specs.Automaton.{Automaton}
-use Rattle.algorithms.specs.Overloops.{accepts?}
-use Rattle.blocks.specs.Blocks.{content}
-use Rattle.automaton.specs.declared.Header.{Header}
-use Rattle.tree.specs.File.{nodesOf, readTree}
-use Rattle.nodes.specs.Nodes.{treeOf}
-use Rattle.tree.proofs.Reading.{TreeRead, tree-read}
-use Rattle.tree.specs.declared.file.ParsedTree.{ParsedTree}
-use Rattle.overloops.specs.Ready.{Headed}
-use Rattle.membership.proofs.Laws.{written-below, front-is, judged-refused, judged-nodes}
 use Rattle.judging.proofs.judge_file.Statement.{statement}
 use Rattle.judging.proofs.judge_file.Tie as tie
 
--- the file reads
-module _ (c : tie.After-known-told2) where
-  abbrev h : Header
-  h = c .before .before .before .before .before .before .args .header
+by-search-requires : tie.Need-by-search-requires
+by-search-requires c κs = search needs
 
-  abbrev s : List ℕ
-  s = c .before .before .before .before .before .before .args .file .now
+answer-of-requires : tie.Need-answer-of-requires
+answer-of-requires c κs = search needs
 
-  abbrev k : ℕ
-  k = c .before .k .given .0 .0
-
-  abbrev signature : Signature
-  signature = record { symbols = h .symbols; branches = h .branches }
-
-  read-is : readTree signature s ≡ ParsedTree.Nodes k
-  read-is = sym (c .before .before .before .read-tree .ensures .0) ∙ c .before .k .given .1
-
-  read : TreeRead signature s k
-  read = tree-read signature s k read-is
-
-  -- the part of the buffer that is lent on has the file's nodes
-  nodes-are : take k (c .before .before .before .read-tree .last .1 .1 .0) ≡ nodesOf k (content s)
-  nodes-are = front-is signature s k _ _ _ (c .before .k .given .1) (c .before .before .before .read-tree .ensures .1) read
-
--- the answer is the automaton's
-answer-is : (c : tie.After-accepts) (A : Automaton) → Headed A (h (c .before .before)) (c .before .before .before .before .before .before .before .before .args .table .now) →
-    c .accepts .result ≡ accepts? A (treeOf (h (c .before .before) .branches) (nodesOf (k (c .before .before)) (content (s (c .before .before)))))
-answer-is c A r =
-    let told = c .before .before in
-    c .accepts .ensures A r (treeOf (h told .branches) (nodesOf (k told) (content (s told)))) (rw (nodes-are told) (read told .stands))
+returns : tie.Need-returns
+returns c = λ A k. c .answer-of .ensures A k (c .before .by-search .ensures A k)
 
 pub judge-file-spec : {M : Type 1} → statement M
-judge-file-spec =
-    tie.close
-    (tie.spec
-    (λ c κs. search needs)
-    (λ c. search needs)
-    (λ c. search needs)
-    (λ c. let e = ap length (nodes-are c) ∙ read c .size in omega (arith, length-take (k c) (c .before .before .before .read-tree .last .1 .1 .0), e))
-    (λ c. rw (nodes-are (c .before)) (sym (read (c .before) .size)))
-    (λ c κs.
-    let limits = c .before .before .before .before .before .before .before .pre in
-    let r = read (c .before) in
-    rw (nodes-are (c .before)) (omega (arith, r .size, r .some), omega (arith, r .size, r .most), limits .0, written-below _ _ _ (limits .1) (r .tree)))
-    (λ c. λ A r. judged-refused A _ _ r _ _ (sym (c .before .before .before .read-tree .ensures .0) ∙ c .before .refusal .given .1))
-    (λ c. λ A r. judged-nodes A _ _ r _ _ true (read-is (c .before .before .before)) (sym (c .if1 .taken) ∙ answer-is (c .before) A r))
-    (λ c. λ A r. judged-nodes A _ _ r _ _ false (read-is (c .before .before .before)) (sym (c .if1 .left) ∙ answer-is (c .before) A r)))
+judge-file-spec = tie.close (tie.spec by-search-requires answer-of-requires returns)

@@ -1,83 +1,17 @@
--- `judging::judge_with` meets its contract: what the cache tells is what judging answers, and where it tells nothing the search does.
+-- `judging::judge_with` meets its contract.
 -- Assumes nothing.
-use Rattle.determinization.proofs.Empty.{kept-cache}
 use borrow.Author.Needs.{needs}
 use Rattle.judging.proofs.judge_with.Statement.{statement}
 use Rattle.judging.proofs.judge_with.Tie as tie
 
-blocks-in-requires : tie.Need-blocks-in-requires
-blocks-in-requires c κs = search needs
+by-cache-requires : tie.Need-by-cache-requires
+by-cache-requires c κs = search needs
 
-begin-requires : tie.Need-begin-requires
-begin-requires c κs = search needs
-
-judge-file-requires : tie.Need-judge-file-requires
-judge-file-requires c κs = search needs
+answer-of-requires : tie.Need-answer-of-requires
+answer-of-requires c κs = search needs
 
 returns : tie.Need-returns
-returns c = λ A k h. (kept-cache A _ _ _ _ _ (c .before .before .begin .ensures) h, c .judge-file .ensures A k)
-
-by-classes-requires : tie.Need-by-classes-requires
-by-classes-requires c κs = search needs
-
-enum-told : tie.Need-enum-told
-enum-told c = search needs
-
-gain-requires : tie.Need-gain-requires
-gain-requires c κs = search needs
-
-end-requires : tie.Need-end-requires
-end-requires c κs = search needs
-
-enum-told-2 : tie.Need-enum-told-2
-enum-told-2 c = search needs
-
-gain-requires-2 : tie.Need-gain-requires-2
-gain-requires-2 c κs = search needs
-
-end-requires-2 : tie.Need-end-requires-2
-end-requires-2 c κs = search needs
-
-enum-told-3 : tie.Need-enum-told-3
-enum-told-3 c = search needs
-
-end-requires-3 : tie.Need-end-requires-3
-end-requires-3 c κs = search needs
-
-renew-requires : tie.Need-renew-requires
-renew-requires c κs = search needs
-
-judge-file-requires-2 : tie.Need-judge-file-requires-2
-judge-file-requires-2 c κs = search needs
-
-returns-2 : tie.Need-returns-2
-returns-2 c = λ A k h. let told = c .before .before .before .before .before .by-classes .ensures A k (kept-cache A _ _ _ _ _ (c .before .before .before .before .before .before .before .before .before .before .before .before .begin .ensures) h) in (kept-cache A _ _ _ _ _ (c .end .ensures) (told .0), rw (c .before .before .before .enum-told .given .1) at (told .1))
-
-returns-3 : tie.Need-returns-3
-returns-3 c = λ A k h. let told = c .before .before .before .before .before .by-classes .ensures A k (kept-cache A _ _ _ _ _ (c .before .before .before .before .before .before .before .before .before .before .before .before .begin .ensures) h) in (kept-cache A _ _ _ _ _ (c .end2 .ensures) (told .0), rw (c .before .before .before .enum-told2 .given .1) at (told .1))
-
-returns-4 : tie.Need-returns-4
-returns-4 c = λ A k h. let told = c .before .before .before .before .before .before .before .before .before .by-classes .ensures A k (kept-cache A _ _ _ _ _ (c .before .before .before .before .before .before .before .before .before .before .before .before .before .before .before .before .begin .ensures) h) in (c .before .renew .ensures A _ (kept-cache A _ _ _ _ _ (c .before .before .before .before .before .end3 .ensures) (told .0)), c .judge-file2 .ensures A k)
+returns c = λ A k h. let told = c .before .by-cache .ensures A k h in (told .0, c .answer-of .ensures A k (told .1))
 
 pub judge-with-spec : {M : Type 1} → statement M
-judge-with-spec =
-    tie.close
-    (tie.spec
-    blocks-in-requires
-    begin-requires
-    judge-file-requires
-    returns
-    by-classes-requires
-    enum-told
-    gain-requires
-    end-requires
-    enum-told-2
-    gain-requires-2
-    end-requires-2
-    enum-told-3
-    end-requires-3
-    renew-requires
-    judge-file-requires-2
-    returns-2
-    returns-3
-    returns-4)
+judge-with-spec = tie.close (tie.spec by-cache-requires answer-of-requires returns)

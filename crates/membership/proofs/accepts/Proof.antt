@@ -10,7 +10,9 @@ accepts-spec =
     tie.close
     (tie.spec
     (λ c. search needs)
+    (λ c. search needs)
+    (λ c κs. search needs)
     (λ c κs. search needs)
     (λ c κs. search needs)
     (λ c. λ A k u h.
-    accepts-by A u _ _ _ _ (k .headed .initial) (k .headed .accepting) (c .before .root-loops .ensures A (k .headed .tabled) (k .leaves-are) u h) (c .meets .ensures)))
+    accepts-by A u _ _ _ _ (k .initial) (k .accepting) (c .before .root-loops .ensures A (k .tabled) (c .before .before .before .before .fill-leaves .ensures A (k .tabled)) u h) (c .meets .ensures)))

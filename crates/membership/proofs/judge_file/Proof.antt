@@ -16,8 +16,9 @@ use Rattle.tree.specs.File.{nodesOf, readTree}
 use Rattle.nodes.specs.Nodes.{treeOf}
 use Rattle.tree.proofs.Reading.{TreeRead, tree-read}
 use Rattle.tree.specs.declared.file.ParsedTree.{ParsedTree}
-use Rattle.overloops.specs.Ready.{Ready}
-use Rattle.membership.proofs.Laws.{written-below, front-is, judged-refused, judged-nodes}
+use Rattle.overloops.specs.Ready.{Headed}
+use Rattle.membership.proofs.Laws.{front-is, judged-refused, judged-nodes}
+use Rattle.nodes.proofs.Signatures.{written-below}
 use Rattle.membership.proofs.judge_file.Statement.{statement}
 use Rattle.membership.proofs.judge_file.Tie as tie
 
@@ -46,7 +47,7 @@ module _ (c : tie.After-known-told2) where
   nodes-are = front-is signature s k _ _ _ (c .before .k .given .1) (c .before .before .before .read-tree .ensures .1) read
 
 -- the answer is the automaton's
-answer-is : (c : tie.After-accepts) (A : Automaton) → Ready A (h (c .before .before)) (c .before .before .before .before .before .before .before .before .args .table .now) (c .before .before .before .before .before .before .before .before .args .leaves .now) →
+answer-is : (c : tie.After-accepts) (A : Automaton) → Headed A (h (c .before .before)) (c .before .before .before .before .before .before .before .before .args .table .now) →
     c .accepts .result ≡ accepts? A (treeOf (h (c .before .before) .branches) (nodesOf (k (c .before .before)) (content (s (c .before .before)))))
 answer-is c A r =
     let told = c .before .before in
@@ -65,6 +66,6 @@ judge-file-spec =
     let limits = c .before .before .before .before .before .before .before .pre in
     let r = read (c .before) in
     rw (nodes-are (c .before)) (omega (arith, r .size, r .some), limits .0, written-below _ _ _ (limits .1) (r .tree)))
-    (λ c. λ A r. judged-refused A _ _ (r .headed) _ _ (sym (c .before .before .before .read-tree .ensures .0) ∙ c .before .refusal .given .1))
-    (λ c. λ A r. judged-nodes A _ _ (r .headed) _ _ true (read-is (c .before .before .before)) (sym (c .if1 .taken) ∙ answer-is (c .before) A r))
-    (λ c. λ A r. judged-nodes A _ _ (r .headed) _ _ false (read-is (c .before .before .before)) (sym (c .if1 .left) ∙ answer-is (c .before) A r)))
+    (λ c. λ A r. judged-refused A _ _ r _ _ (sym (c .before .before .before .read-tree .ensures .0) ∙ c .before .refusal .given .1))
+    (λ c. λ A r. judged-nodes A _ _ r _ _ true (read-is (c .before .before .before)) (sym (c .if1 .taken) ∙ answer-is (c .before) A r))
+    (λ c. λ A r. judged-nodes A _ _ r _ _ false (read-is (c .before .before .before)) (sym (c .if1 .left) ∙ answer-is (c .before) A r)))

@@ -2,7 +2,7 @@
 -- Assumes nothing.
 use borrow.Author.Needs.{needs}
 use Prim.Native.Nat.{_-_, _≤_}
-use mathlib.Core.Path.{_≡_}
+use mathlib.Core.Path.{_≡_, refl}
 use Rattle.transitions.specs.Transitions.{nextStates}
 use Rattle.transitions.specs.Compiled.{Tabulates}
 use Rattle.transitions.proofs.Laws.{none-held, one-held}
@@ -21,13 +21,12 @@ compile-spec =
     (tie.spec
     Inv-loop
     μ-loop
-    (λ c κs. search needs)
     (λ c. search needs)
-    (λ c. (search needs, rw (c .before .clear .ensures) (none-held _ _ _ (c .before .before .clear-arg .given .0 .1))))
+    (λ c. (search needs, rw (c .before .before .pre .1) (none-held _ _ _ refl)))
     (λ c κs. search needs)
     (λ c. search needs)
     (λ c. search needs)
     (λ c. (search needs, one-held _ _ _ _ _ (c .before .before .before .loop .inv .1) (c .add-rule-at .ensures)))
     (λ c.
-    let end : c .before .loop .i ≡ c .before .before .before .before .before .before .args .header .rules = search needs in
+    let end : c .before .loop .i ≡ c .before .before .before .before .args .header .rules = search needs in
     rw end at (c .before .loop .inv .1)))

@@ -29,7 +29,7 @@ load-spec =
     (λ c κs. search needs)
     (λ c. contents-fit _ _ _ (c .content-length .ensures) (content-is c))
     (λ c. rw (content-is (c .before)) (c .before .content-length .ensures))
-    (λ c κs. rw (content-is (c .before .before)) (file-read _ _ (read-is (c .before .before .before)) .laid-out))
+    (λ c κs. (rw (content-is (c .before .before)) (file-read _ _ (read-is (c .before .before .before)) .laid-out), c .before .before .before .before .before .before .before .before .before .pre))
     (λ c. let told = rw (c .before .refusal .given .1) at (c .before .before .before .read .ensures) in (told .0, refl))
     (λ c.
     let told = rw (c .before .before .before .before .before .header .given .1) at (c .before .before .before .before .before .before .before .read .ensures) in

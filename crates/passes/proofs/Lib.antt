@@ -1,0 +1,3 @@
+-- The laws of the stack of words.
+pub mod Stacks
+pub mod Laws
