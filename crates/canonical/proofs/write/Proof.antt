@@ -2,7 +2,7 @@
 -- Assumes nothing.
 use borrow.Author.Needs.{needs}
 use Prim.Native.Nat.{ℕ, _*_, _≤_}
-use mathlib.Core.Path.{_≡_, sym, ap, _∙_}
+use mathlib.Core.Path.{_≡_, refl, sym, ap, _∙_}
 use mathlib.Core.List.{List}
 use native.Mathlib.Omega.{arith}
 use lib.ListN.{length, take}
@@ -62,7 +62,7 @@ write-spec =
     (λ c κs. search needs)
     (λ c. contents-fit _ _ _ (c .content-length .ensures) (content-is c))
     (λ c. rw (content-is (c .before)) (c .before .content-length .ensures))
-    (λ c κs. rw (content-is (c .before .before)) (file-read _ _ (is-read (c .before .before .before)) .laid-out))
+    (λ c κs. (rw (content-is (c .before .before)) (file-read _ _ (is-read (c .before .before .before)) .laid-out), refl))
     (λ c κs.
     let e = is-read (c .before .before .before .before .before .before) in
     (file-limits _ _ e, room _ _ _ e (compiled (c .before .before))))
