@@ -1,9 +1,10 @@
 -- The saturation over fresh rows tells the same (`fresh-saturation`). Assumes nothing.
+-- Interface: `countFrom-append`, `Old`, `Stale`, `class-stays`, `tried-old`, `all-old`, `fresh-stale`, `fresh-saturation`.
 use Prim.Native.Nat.{ℕ, zero, suc, _+_, _-_, _≤_, _<_}
 use mathlib.Core.Path.{_≡_, refl, sym, ap, ap₂, _∙_}
 use mathlib.Core.Bool.{Bool, true, false}
 use mathlib.Core.Option.{Option, none, some}
-use mathlib.Core.List.{List, [], _∷_, _++_, map, flatMap, map-append, Memᴰ·of-map, Memᴰ·append-left, List·Memᴰ·head, List·Memᴰ·tail}
+use mathlib.Core.List.{List, [], _∷_, _++_, map, flatMap, append-nil, map-append, Memᴰ·of-map, Memᴰ·append-left, List·Memᴰ·head, List·Memᴰ·tail}
 use native.Mathlib.Nat.{zero-add, add-zero}
 use native.Mathlib.Omega.{arith}
 use lib.ListN.{length}
@@ -56,10 +57,37 @@ countFrom-append s (suc k) m =
 
 -- ---- it tells the same
 
-module _ (M : Algebra) (sound : (x y : M .Class) → T (M .same x y) → x ≡ y) (reflexive : (x : M .Class) → T (M .same x x)) where
+module _ (M : Algebra) where
   -- A candidate that need not be tried: its class is that of a row, and it is not accepted.
-  abbrev Old : List (Candidate M) → Candidate M → Type 0
+  abbrev pub Old : List (Candidate M) → Candidate M → Type 0
   Old kept c = (c .class ∈ classes M kept) × (c .accepted ≡ false)
+
+  -- What round h may leave out.
+  abbrev pub Stale : Alphabet → (h old : ℕ) → List (Candidate M) → Type 0
+  Stale S zero old kept = kept ≡ []
+  Stale S (suc h) old kept =
+      (old ≤ length kept) × ((σ a b : ℕ) → σ ∈ S .branches → a < old → b < old → Old kept (nodeCandidate M kept σ a b))
+
+  -- The rows kept stay where they are.
+  pub class-stays : (kept cs : List (Candidate M)) (i : ℕ) → i < length kept → classAt M (absorb M kept cs) i ≡ classAt M kept i
+  unfolding classAt
+  class-stays kept cs i l =
+      let r = nth-of-lt kept i l in
+      ap (λ (c : Candidate M). c .class) (nth-getD (leafCandidate M 0) (absorb-at M kept cs (r .1)) ∙ sym (nth-getD (leafCandidate M 0) (r .1)))
+
+  candidate-stays : (kept cs : List (Candidate M)) (σ a b : ℕ) → a < length kept → b < length kept →
+      nodeCandidate M (absorb M kept cs) σ a b ≡ nodeCandidate M kept σ a b
+  unfolding nodeCandidate
+  candidate-stays kept cs σ a b la lb = rw (class-stays kept cs a la, class-stays kept cs b lb)
+
+module _ (M : Algebra) (sound : (x y : M .Class) → T (M .same x y) → x ≡ y) (reflexive : (x : M .Class) → T (M .same x x)) where
+  -- A candidate tried where none is accepted is old from then on.
+  pub tried-old : (kept cs : List (Candidate M)) (c : Candidate M) → firstAccepted M cs ≡ none → c ∈ cs → Old M (absorb M kept cs) c
+  tried-old kept cs c e m = (absorb-covers M sound reflexive c cs kept m, false-of-not _ (first-none M cs e c m))
+    where
+      false-of-not : (b : Bool) → ¬ T b → b ≡ false
+      false-of-not true n = absurd (n tt)
+      false-of-not false n = refl
 
   thin-first : {P : Candidate M → Type 0} {xs ys : List (Candidate M)} → ((c : Candidate M) → P c → c .accepted ≡ false) →
       Thin P xs ys → firstAccepted M xs ≡ firstAccepted M ys
@@ -87,11 +115,18 @@ module _ (M : Algebra) (sound : (x y : M .Class) → T (M .same x y) → x ≡ y
       not-new true k = refl
       not-new false k = absurd k
 
+  -- Of candidates that need not be tried none is accepted, and the rows stay as they are.
+  pub all-old : (kept cs : List (Candidate M)) → ((c : Candidate M) → c ∈ cs → Old M kept c) → (firstAccepted M cs ≡ none) × (absorb M kept cs ≡ kept)
+  unfolding firstAccepted absorb
+  all-old kept cs h =
+      let t : Thin (Old M kept) cs [] = rw append-nil at (thin-all cs [] h) in
+      (thin-first (λ c p. p .1) t, thin-absorb kept (λ c p. p .0) t)
+
   -- A round without the candidates that need not be tried.
   module _ (bs : List ℕ) (old : ℕ) (kept : List (Candidate M)) (fits : old ≤ length kept)
-      (stale : (σ a b : ℕ) → σ ∈ bs → a < old → b < old → Old kept (nodeCandidate M kept σ a b)) where
+      (stale : (σ a b : ℕ) → σ ∈ bs → a < old → b < old → Old M kept (nodeCandidate M kept σ a b)) where
     thin-rights : (σ a : ℕ) → σ ∈ bs → (is-old : Bool) → ltb a old ≡ is-old →
-        Thin (Old kept) (map (λ b. nodeCandidate M kept σ a b) (countFrom 0 (length kept)))
+        Thin (Old M kept) (map (λ b. nodeCandidate M kept σ a b) (countFrom 0 (length kept)))
         (map (λ b. nodeCandidate M kept σ a b) (rights is-old old (length kept)))
     thin-rights σ a m false e = thin-refl _
     thin-rights σ a m true e =
@@ -101,49 +136,31 @@ module _ (M : Algebra) (sound : (x y : M .Class) → T (M .same x y) → x ≡ y
         ∙ ap (λ (s : ℕ). countFrom 0 old ++ countFrom s (length kept - old)) (omega arith) in
         rw (split, map-append) (thin-all (map (λ b. nodeCandidate M kept σ a b) (countFrom 0 old)) _ each)
       where
-        each : (c : Candidate M) → c ∈ map (λ b. nodeCandidate M kept σ a b) (countFrom 0 old) → Old kept c
+        each : (c : Candidate M) → c ∈ map (λ b. nodeCandidate M kept σ a b) (countFrom 0 old) → Old M kept c
         each c k =
             let r = Memᴰ·of-map (λ b. nodeCandidate M kept σ a b) (countFrom 0 old) k in
             rw (← r .2) (stale σ a (r .0) m (ltb→lt a old (rw e tt)) (omega (arith, of-countFrom 0 old (r .0) (r .1))))
 
-    thin-nodes : Thin (Old kept) (nodeCandidates M bs kept) (freshNodes M bs old kept)
+    thin-nodes : Thin (Old M kept) (nodeCandidates M bs kept) (freshNodes M bs old kept)
     unfolding nodeCandidates freshNodes
     thin-nodes = thin-flatMap _ _ bs (λ σ m. thin-flatMap _ _ (countFrom 0 (length kept)) (λ a k. thin-rights σ a m (ltb a old) refl))
 
   module _ (S : Alphabet) where
-    -- What round h may leave out.
-    abbrev Stale : (h old : ℕ) → List (Candidate M) → Type 0
-    Stale zero old kept = kept ≡ []
-    Stale (suc h) old kept =
-        (old ≤ length kept) × ((σ a b : ℕ) → σ ∈ S .branches → a < old → b < old → Old kept (nodeCandidate M kept σ a b))
-
-    thin-candidates : (h old : ℕ) (kept : List (Candidate M)) → Stale h old kept →
-        Thin (Old kept) (candidates M S h kept) (freshCandidates M S h old kept)
+    thin-candidates : (h old : ℕ) (kept : List (Candidate M)) → Stale M S h old kept →
+        Thin (Old M kept) (candidates M S h kept) (freshCandidates M S h old kept)
     unfolding candidates freshCandidates
     thin-candidates zero old kept s = thin-refl _
     thin-candidates (suc h) old kept s = thin-nodes (S .branches) old kept (s .0) (s .1)
 
-    round-same : (limit h old : ℕ) (kept : List (Candidate M)) → Stale h old kept → freshRound M S limit h old kept ≡ round M S limit h kept
+    round-same : (limit h old : ℕ) (kept : List (Candidate M)) → Stale M S h old kept → freshRound M S limit h old kept ≡ round M S limit h kept
     unfolding freshRound round
     round-same limit h old kept s =
         let t = thin-candidates h old kept s in
         ap₂ (conclude M limit h kept) (sym (thin-first (λ c p. p .1) t)) (sym (thin-absorb kept (λ c p. p .0) t))
 
-    -- The rows kept stay where they are.
-    class-stays : (kept cs : List (Candidate M)) (i : ℕ) → i < length kept → classAt M (absorb M kept cs) i ≡ classAt M kept i
-    unfolding classAt
-    class-stays kept cs i l =
-        let r = nth-of-lt kept i l in
-        ap (λ (c : Candidate M). c .class) (nth-getD (leafCandidate M 0) (absorb-at M kept cs (r .1)) ∙ sym (nth-getD (leafCandidate M 0) (r .1)))
-
-    candidate-stays : (kept cs : List (Candidate M)) (σ a b : ℕ) → a < length kept → b < length kept →
-        nodeCandidate M (absorb M kept cs) σ a b ≡ nodeCandidate M kept σ a b
-    unfolding nodeCandidate
-    candidate-stays kept cs σ a b la lb = rw (class-stays kept cs a la, class-stays kept cs b lb)
-
     -- After a round in which none is accepted, all its candidates are old.
-    next-stale : (h old : ℕ) (kept : List (Candidate M)) → Stale h old kept → firstAccepted M (candidates M S h kept) ≡ none →
-        Stale (suc h) (length kept) (absorb M kept (candidates M S h kept))
+    next-stale : (h old : ℕ) (kept : List (Candidate M)) → Stale M S h old kept → firstAccepted M (candidates M S h kept) ≡ none →
+        Stale M S (suc h) (length kept) (absorb M kept (candidates M S h kept))
     unfolding candidates
     next-stale zero old kept s e = (absorb-longer M kept _, λ σ a b m la lb. absurd (omega (arith, ap length s)))
     next-stale (suc h) old kept s e = (absorb-longer M kept _, each)
@@ -151,17 +168,17 @@ module _ (M : Algebra) (sound : (x y : M .Class) → T (M .same x y) → x ≡ y
         cs : List (Candidate M)
         cs = nodeCandidates M (S .branches) kept
 
-        each : (σ a b : ℕ) → σ ∈ S .branches → a < length kept → b < length kept → Old (absorb M kept cs) (nodeCandidate M (absorb M kept cs) σ a b)
+        each : (σ a b : ℕ) → σ ∈ S .branches → a < length kept → b < length kept → Old M (absorb M kept cs) (nodeCandidate M (absorb M kept cs) σ a b)
         each σ a b m la lb =
             let c = mem-nodeCandidates M (S .branches) kept σ a b m la lb in
-            rw (candidate-stays kept cs σ a b la lb) (
-              absorb-covers M sound reflexive (nodeCandidate M kept σ a b) cs kept c,
-              false-of-not _ (first-none M cs e (nodeCandidate M kept σ a b) c),
-            )
-          where
-            false-of-not : (b : Bool) → ¬ T b → b ≡ false
-            false-of-not true n = absurd (n tt)
-            false-of-not false n = refl
+            rw (candidate-stays M kept cs σ a b la lb) (tried-old kept cs (nodeCandidate M kept σ a b) e c)
+
+    -- The same where only the fresh candidates are tried.
+    pub fresh-stale : (h old : ℕ) (kept : List (Candidate M)) → Stale M S h old kept → firstAccepted M (freshCandidates M S h old kept) ≡ none →
+        Stale M S (suc h) (length kept) (absorb M kept (freshCandidates M S h old kept))
+    fresh-stale h old kept s e =
+        let t = thin-candidates h old kept s in
+        rw (← thin-absorb kept (λ c p. p .0) t) (next-stale h old kept s (thin-first (λ c p. p .1) t ∙ e))
 
     -- A round that gives no verdict: none was accepted, and the rows go on.
     settle-onward : (h : ℕ) (full quiet : Bool) (next rows : List (Candidate M)) → settle M h full quiet next ≡ onward rows → rows ≡ next
@@ -176,7 +193,7 @@ module _ (M : Algebra) (sound : (x y : M .Class) → T (M .same x y) → x ≡ y
     conclude-onward limit h kept (some c) next rows e = let z : _≡_ {A = ℕ} 0 1 = cc in absurd (omega arith)
     conclude-onward limit h kept none next rows e = (refl, settle-onward h _ _ next rows e)
 
-    rounds-same : (limit fuel h old : ℕ) (kept : List (Candidate M)) → Stale h old kept →
+    rounds-same : (limit fuel h old : ℕ) (kept : List (Candidate M)) → Stale M S h old kept →
         freshRounds M S limit fuel h old kept ≡ rounds M S limit fuel h kept
     unfolding freshRounds rounds after round
     rounds-same limit zero h old kept s = refl
@@ -184,7 +201,7 @@ module _ (M : Algebra) (sound : (x y : M .Class) → T (M .same x y) → x ≡ y
         rw (round-same limit h old kept s) (go (round M S limit h kept) refl (rounds-same limit fuel (suc h) (length kept)))
       where
         go : (o : Ending M) → round M S limit h kept ≡ o →
-            ((next : List (Candidate M)) → Stale (suc h) (length kept) next →
+            ((next : List (Candidate M)) → Stale M S (suc h) (length kept) next →
             freshRounds M S limit fuel (suc h) (length kept) next ≡ rounds M S limit fuel (suc h) next) →
             after M o (λ next. freshRounds M S limit fuel (suc h) (length kept) next) ≡ after M o (λ next. rounds M S limit fuel (suc h) next)
         go (done v) e later = refl
