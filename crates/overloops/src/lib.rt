@@ -155,7 +155,7 @@ pub fn leaf_loops(table: &TransitionTable, states: usize, symbol: Symbol, place:
     )
 }
 
-fn side_number(side: Side) -> usize
+pub fn side_number(side: Side) -> usize
     ensures { λ r. ⌜ (r ≡ sideNumber side) × (r < 2) ⌝ }
 {
     match side {
