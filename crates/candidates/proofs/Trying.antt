@@ -51,7 +51,7 @@ module _ (A : Automaton) where
   -- ---- a node over two rows
 
   module _ {base kept : Rows} {n : ℕ} {rows : List ℕ} (h : Keeps A base kept n rows) where
-    class-is : (i : ℕ) → i < length base → i < 64 → {x : Parts} → x ≡ classIn rows i → x ≡ classAt M base i
+    pub class-is : (i : ℕ) → i < length base → i < 64 → {x : Parts} → x ≡ classIn rows i → x ≡ classAt M base i
     unfolding classAt
     class-is i l few e =
         let r = nth-of-lt base i l in

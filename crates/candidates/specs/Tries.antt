@@ -1,17 +1,20 @@
 -- What trying candidates one after the other gives: the first that is accepted, or the rows kept. In terms of the saturation's own
 -- functions on lists.
--- Interface: `overRows`, `Keeps`, `Tries`, `Few`.
+-- Interface: `overRows`, `Keeps`, `Settled`, `Marks`, `Skips`, `Tries`, `Few`.
 use mathlib.Core.Path.{_≡_}
 use mathlib.Core.Option.{none, some}
 use mathlib.Core.List.{List, map, flatMap}
 use Prim.Native.Nat.{ℕ, _<_, _≤_}
 use lib.Dec.{ltb}
-use Rattle.model.specs.Lists.{Nth, countFrom}
-use Rattle.model.specs.Saturation.{Algebra, Candidate, nodeCandidate, firstAccepted, absorb}
+use lib.ListN.{length}
+use Rattle.model.specs.Lists.{_∈_, Nth, countFrom}
+use Rattle.model.specs.Saturation.{Algebra, Candidate, classAt, nodeCandidate, firstAccepted, absorb}
 use Rattle.model.specs.Fresh.{rights}
-use Rattle.algorithms.specs.Automaton.{Automaton}
+use Rattle.model.proofs.FreshRows.{Old}
+use Rattle.algorithms.specs.Automaton.{Automaton, alphabetOf}
 use Rattle.algorithms.specs.Saturate.{algebraOf}
 use Rattle.representatives.specs.Stored.{originOf, StoredAt, Stored}
+use Rattle.interchange.specs.Interchange.{Marked}
 use Rattle.representatives.specs.declared.Origin.{Origin}
 use Rattle.candidates.specs.declared.Tried.{Tried}
 
@@ -32,6 +35,19 @@ module _ (A : Automaton) where
   pub record Keeps (base kept : List (Candidate (algebraOf A))) (n : ℕ) (rows : List ℕ) : Type 0 where
     pub stored : Stored A rows n kept
     pub extends : (i : ℕ) (c : Candidate (algebraOf A)) → Nth base i c → Nth kept i c
+
+  -- the candidate of σ over the rows a and b need not be tried: it is not accepted, and its class is that of a row kept
+  abbrev pub Settled : (base kept : List (Candidate (algebraOf A))) (σ a b : ℕ) → Type 0
+  Settled base kept σ a b = Old (algebraOf A) kept (nodeCandidate (algebraOf A) base σ a b)
+
+  -- the table's marks are of the rows that the round began with
+  abbrev pub Marks : (base : List (Candidate (algebraOf A))) (doubles : List ℕ) → Type 0
+  Marks base doubles = Marked A (classAt (algebraOf A) base) (length base) doubles
+
+  -- what a round rests on where it skips candidates: the marks, and that those over two rows below `old` are settled
+  pub record Skips (base : List (Candidate (algebraOf A))) (old : ℕ) (doubles : List ℕ) : Type 0 where
+    pub marks : Marks base doubles
+    pub pairs : (σ a b : ℕ) → σ ∈ alphabetOf A .branches → a < old → b < old → Settled base base σ a b
 
   -- after the candidates cs: the first that is accepted, with the round's first rows as they were; or the rows kept
   pub data Tries (base kept cs : List (Candidate (algebraOf A))) (rows : List ℕ) : Tried → Type 0 where

@@ -1,7 +1,7 @@
 -- Laws of the rounds: what a round ends with, or leaves to the next.
 -- Assumes nothing.
-use Prim.Native.Nat.{ℕ, suc, _+_, _-_, _≤_, _<_}
-use mathlib.Core.Path.{_≡_, refl, sym, ap, _∙_}
+use Prim.Native.Nat.{ℕ, zero, suc, _+_, _-_, _≤_, _<_}
+use mathlib.Core.Path.{_≡_, refl, sym, ap, subst, _∙_}
 use mathlib.Core.Logic.{inl, inr}
 use mathlib.Core.Option.{none}
 use mathlib.Core.List.{List, [], _∷_, _++_, map}
@@ -9,19 +9,23 @@ use native.Mathlib.Nat.{add-zero}
 use native.Mathlib.Omega.{arith}
 use borrow.Author.Tests.{lt-ltb, le-ltb, eq-eqb, ne-eqb}
 use lib.ListN.{length}
-use Rattle.model.specs.Lists.{Nth, here, there, countFrom}
+use Rattle.model.specs.Lists.{_∈_, Nth, here, there, countFrom}
 use Rattle.model.proofs.ListLaws.{nth-lt}
-use Rattle.model.specs.Saturation.{Algebra, Candidate, Verdict, Found, Open, Empty, firstAccepted, absorb, rowsOf, settle, conclude, after}
+use Rattle.model.specs.Saturation.{Algebra, Candidate, Verdict, Found, Open, Empty, classAt, firstAccepted, absorb, rowsOf, settle, conclude, after}
 use Rattle.model.proofs.Turns.{absorb-longer}
 use Rattle.model.specs.Fresh.{freshCandidates, freshRound, freshRounds, freshSaturation}
+use Rattle.model.proofs.FreshRows.{Stale, class-stays, fresh-stale}
 use Rattle.algorithms.specs.Automaton.{Automaton, alphabetOf}
-use Rattle.algorithms.specs.Saturate.{algebraOf, saturationOf}
+use Rattle.algorithms.specs.Saturate.{Parts, algebraOf, saturationOf}
+use Rattle.algorithms.proofs.Recognized.{same-sound, same-refl}
 use Rattle.algorithms.proofs.Theorems.{fresh-same}
-use Rattle.representatives.specs.Stored.{originOf, originIn, originsIn, Count}
-use Rattle.candidates.specs.Tries.{Held, Keeps, Tries, accepted, onward}
+use Rattle.representatives.specs.Stored.{originOf, originIn, originsIn, classIn, Count}
+use Rattle.interchange.specs.Interchange.{MarkedAt, Marked}
+use Rattle.interchange.proofs.Laws.{words-none, doubled-as}
+use Rattle.candidates.specs.Tries.{Held, Keeps, Settled, Skips, Tries, accepted, onward}
 use Rattle.representatives.specs.declared.Origin.{Origin}
 use Rattle.candidates.specs.declared.Tried.{Tried}
-use Rattle.candidates.proofs.Trying.{no-rows}
+use Rattle.candidates.proofs.Trying.{no-rows, class-is}
 
 module _ (A : Automaton) where
   abbrev M : Algebra
@@ -93,22 +97,39 @@ module _ (A : Automaton) where
 
   -- ---- from round to round
 
-  -- the table as a round begins, and what the rounds from here on say
-  pub record Begins (rows : List ℕ) (old n height : ℕ) : Type 0 where
+  -- the tables as a round begins, the old rows being marked, and what the rounds from here on say
+  pub record Begins (rows doubles : List ℕ) (old n height : ℕ) : Type 0 where
     pub base : List (Candidate M)
     pub holds : Keeps A base base n rows
     pub count : length base ≡ n
     pub first : height ≡ 0 → base ≡ []
+    pub stale : Stale M (alphabetOf A) height old base
+    pub marks : Marked A (classAt M base) old doubles
     pub rest : saturationOf A ≡ freshRounds M (alphabetOf A) 64 (65 - height) height old base
 
-  pub begins : (rows : List ℕ) → Begins rows 0 0 0
+  pub begins : (rows doubles : List ℕ) → Begins rows doubles 0 0 0
   unfolding freshSaturation
-  begins rows = record { base = []; holds = no-rows A; count = refl; first = λ e. refl; rest = sym (fresh-same A) }
+  begins rows doubles =
+      record { base = []; holds = no-rows A; count = refl; first = λ e. refl; stale = refl; marks = words-none (MarkedAt A (classAt M [])) doubles; rest = sym (fresh-same A) }
 
-  module _ (rows : List ℕ) (old n height : ℕ) (b : Begins rows old n height) (soon : height < 65) (few : n ≤ 64) (rows′ : List ℕ) (r : Tried)
-      (t : (base : List (Candidate M)) → Keeps A base base n rows → length base ≡ n → (height ≡ 0 → base ≡ []) → Tries A base base (triedIn height old base) rows′ r) where
+  -- the candidates over two old rows need not be tried
+  stale-pairs : (h old : ℕ) (base : List (Candidate M)) → old ≤ length base → Stale M (alphabetOf A) h old base
+      → (σ a b : ℕ) → σ ∈ alphabetOf A .branches → a < old → b < old → Settled A base base σ a b
+  stale-pairs zero old base l s = λ σ a b m la lb. absurd (omega (arith, ap length s))
+  stale-pairs (suc h) old base l s = s .1
+
+  module _ (rows doubles : List ℕ) (old n height : ℕ) (b : Begins rows doubles old n height) (soon : height < 65) (some-old : old ≤ n) (few : n ≤ 64) (doubles′ : List ℕ)
+      (m : (class : ℕ → Parts) → ((i : ℕ) → i < n → classIn rows i ≡ class i) → Marked A class old doubles → Marked A class n doubles′) (rows′ : List ℕ) (r : Tried)
+      (t : (base : List (Candidate M)) → Keeps A base base n rows → length base ≡ n → (height ≡ 0 → base ≡ []) → Skips A base old doubles′
+      → Tries A base base (triedIn height old base) rows′ r) where
+    all-marked : Marked A (classAt M (b .base)) n doubles′
+    all-marked = m (classAt M (b .base)) (λ i l. class-is A (b .holds) i (omega (arith, b .count)) (omega arith) refl) (b .marks)
+
+    skips : Skips A (b .base) old doubles′
+    skips = record { marks = rw (b .count) all-marked; pairs = stale-pairs height old (b .base) (omega (arith, b .count)) (b .stale) }
+
     told : {s : Tried} → r ≡ s → Tries A (b .base) (b .base) (triedIn height old (b .base)) rows′ s
-    told e = rw e at (t (b .base) (b .holds) (b .count) (b .first))
+    told e = rw e at (t (b .base) (b .holds) (b .count) (b .first) skips)
 
     one-round : {v : Verdict} → freshRounds M (alphabetOf A) 64 (suc (64 - height)) height old (b .base) ≡ v → saturationOf A ≡ v
     one-round e = let fuel : 65 - height ≡ suc (64 - height) = omega arith in rw fuel at (b .rest) ∙ e
@@ -122,10 +143,11 @@ module _ (A : Automaton) where
     pub ends-empty : {m : ℕ} → r ≡ Tried.Kept m → m ≤ 64 → m ≤ n → saturationOf A ≡ Empty height
     ends-empty e l none-new = one-round (round-empty (64 - height) height old (b .base) l (rw (← b .count) at none-new) (told e))
 
-    pub goes-on : {m : ℕ} → r ≡ Tried.Kept m → m ≤ 64 → n < m → Begins rows′ n m (height + 1)
+    pub goes-on : {m : ℕ} → r ≡ Tried.Kept m → m ≤ 64 → n < m → Begins rows′ doubles′ n m (height + 1)
     goes-on e l new =
         let next = next-rows (64 - height) height old (b .base) l (told e) in
         let on = one-round (round-on (64 - height) height old (b .base) l (rw (← b .count) at new) (told e)) in
+        let none-accepted = counted (64 - height) height old (b .base) (told e) .0 in
         let fuel : 64 - height ≡ 65 - (height + 1) = omega arith in
         let later : suc height ≡ height + 1 = omega arith in
         record {
@@ -133,5 +155,11 @@ module _ (A : Automaton) where
           holds = next .0;
           count = next .1;
           first = λ (z : height + 1 ≡ 0). absurd (omega arith);
+          stale =
+              subst (λ (k : ℕ). Stale M (alphabetOf A) k n (absorb M (b .base) (triedIn height old (b .base)))) later
+              (rw (b .count) at (fresh-stale M same-sound same-refl (alphabetOf A) height old (b .base) (b .stale) none-accepted));
+          marks = λ i s k σ q.
+              doubled-as A σ s (classAt M (b .base)) _ i
+              (λ j h. sym (class-stays M (b .base) (triedIn height old (b .base)) j (omega (arith, b .count)))) (all-marked i s k σ q);
           rest = rw (fuel, later, b .count) at on;
         }

@@ -2,6 +2,10 @@
 use automaton::Header;
 use candidates::Tried;
 use candidates::round;
+use interchange::Doubles;
+use interchange::Entered;
+use interchange::fill_entered;
+use interchange::mark;
 use overloops::LeafTable;
 use representatives::Origin;
 use representatives::RowTable;
@@ -35,11 +39,15 @@ pub fn saturate(
     ensures { λ r. ⌜ FoundFew r × ((A : Automaton) → Ready A header (now (table .entry)) (now (leaves .entry))
         → saturationOf A ≡ verdictOf r (now (rows .exit))) ⌝ }
 {
+    let mut entered: Entered = [0; 64];
+    fill_entered(table, header.symbols, &mut entered);
+    let mut doubles: Doubles = [0; 128];
     let mut old: usize = 0;
     let mut n: usize = 0;
     let mut height: usize = 0;
     loop {
-        match round(table, leaves, header, height, old, n, rows) {
+        mark(&entered, header.symbols, rows, old, n, &mut doubles);
+        match round(table, leaves, header, height, old, n, &doubles, rows) {
             Tried::Accepted(origin) => return Saturated::Found {
                 height,
                 rows: n,

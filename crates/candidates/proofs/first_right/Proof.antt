@@ -13,5 +13,5 @@ first-right-spec =
     tie.close
     (tie.spec
     (λ c. search needs)
-    (λ c. (search needs, λ n. rw (lt-ltb (c .before .before .args .left .0) (c .before .before .args .old) (search needs)) refl))
-    (λ c. (search needs, λ n. let e : n - 0 ≡ n = omega arith in rw (le-ltb (c .before .before .args .left .0) (c .before .before .args .old) (search needs), e) refl)))
+    (λ c. (search needs, search needs, λ n. rw (lt-ltb (c .before .before .args .left .0) (c .before .before .args .old) (search needs)) refl))
+    (λ c. (search needs, λ l. absurd (omega arith), λ n. let e : n - 0 ≡ n = omega arith in rw (le-ltb (c .before .before .args .left .0) (c .before .before .args .old) (search needs), e) refl)))

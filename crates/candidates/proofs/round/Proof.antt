@@ -13,8 +13,8 @@ round-spec =
     (λ c κs. search needs)
     (λ c.
     let zero = c .before .before .if1 .taken in
-    (c .try-leaves .ensures .0, λ A k base h e f. leaves-tried A _ _ (k .headed) _ base _ zero (f zero) (c .try-leaves .ensures .1 A k)))
+    (c .try-leaves .ensures .0, λ A k base h e f s. leaves-tried A _ _ (k .headed) _ base _ zero (f zero) (c .try-leaves .ensures .1 A k)))
     (λ c. (
       c .try-branches .ensures .0,
-      λ A k base h e f. branches-tried A _ _ (k .headed) _ base _ _ (c .before .before .if1 .left) e (c .try-branches .ensures .1 A (k .headed) base h e),
+      λ A k base h e f s. branches-tried A _ _ (k .headed) _ base _ _ (c .before .before .if1 .left) e (c .try-branches .ensures .1 A (k .headed) base h e s),
     )))
