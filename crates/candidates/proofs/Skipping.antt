@@ -1,13 +1,13 @@
 -- Laws of candidates that are skipped: each does the same as one that need not be tried again.
 -- Assumes nothing.
 use Prim.Native.Nat.{ℕ, _-_, _≤_, _<_}
-use mathlib.Core.Path.{_≡_, refl, sym, ap, _∙_}
+use mathlib.Core.Path.{_≡_, refl, sym, _∙_}
 use mathlib.Core.Bool.{Bool, true, false}
-use mathlib.Core.List.{List, [], _∷_, map, flatMap, Memᴰ·map, Memᴰ·of-map, List·Memᴰ·head, List·Memᴰ·not-nil, List·Memᴰ·eq-of-singleton}
+use mathlib.Core.List.{List, [], _∷_, map, flatMap, Memᴰ·map, Memᴰ·of-map, List·Memᴰ·head, List·Memᴰ·eq-of-singleton}
 use native.Mathlib.Decide.{decLt}
 use native.Mathlib.Omega.{arith}
-use lib.Dec.{T, ltb, ltb→lt, nltb→le}
-use Rattle.model.specs.Lists.{_∈_, Nth, countFrom}
+use lib.Dec.{ltb, ltb→lt}
+use Rattle.model.specs.Lists.{_∈_, countFrom}
 use Rattle.model.proofs.ListLaws.{nth-mem, mem-nth, nth-map, nth-of-map, mem-flatMap, mem-countFrom, of-countFrom}
 use Rattle.model.specs.Saturation.{Algebra, Candidate, classAt, nodeCandidate, absorb}
 use Rattle.model.specs.Fresh.{rights}
@@ -23,7 +23,7 @@ use Rattle.automaton.specs.declared.Header.{Header}
 use Rattle.overloops.specs.Ready.{Headed}
 use Rattle.interchange.specs.Interchange.{Interchangeable, Doubled}
 use Rattle.interchange.proofs.Laws.{node-same}
-use Rattle.candidates.specs.Tries.{overLefts, Keeps, Settled, Skips, Tries, onward}
+use Rattle.candidates.specs.Tries.{overLefts, Keeps, Settled, Tries, onward}
 use Rattle.candidates.specs.declared.Tried.{Tried}
 
 -- a number is among the right rows beside a left row, unless both are old
