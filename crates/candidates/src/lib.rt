@@ -100,7 +100,7 @@ fn try_node(
     ))
 }
 
-// The same, unless the right row is a double there: a candidate like it was tried then.
+// The same, unless the right row is a double there: then a candidate that does the same was tried before.
 fn try_right(
     table: &TransitionTable,
     header: Header,
@@ -168,7 +168,8 @@ fn first_right(left: Row, old: usize) -> usize
     if (left.0 as usize) < old { old } else { 0 }
 }
 
-// Tries a branch symbol over a left row and the rows below `to`, of which those below `old` are old; unless the left row is a double there.
+// Tries a branch symbol over a left row and the rows below `to`, of which those below `old` are old; unless the left row is a double there, so
+// that candidates that do the same were tried before.
 fn try_left(
     table: &TransitionTable,
     header: Header,
