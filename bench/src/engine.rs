@@ -15,6 +15,11 @@ pub fn survey(file: &[u8]) -> Result<Survey, Refusal> {
     }
 }
 
+/// Whether the quick check of an automaton's file is clear, or its refusal.
+pub fn is_clear(file: &[u8]) -> Result<bool, Refusal> {
+    ::engine::quick(file).map(|answer| answer == ::engine::Quick::Clear).map_err(refusal)
+}
+
 /// Whether the automaton of a file is single, or its refusal.
 pub fn single(file: &[u8]) -> Result<bool, Refusal> {
     ::engine::single(file).map_err(refusal)

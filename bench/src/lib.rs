@@ -1,7 +1,8 @@
 //! Judging, the survey, the quick check, single, the one form and the percent in Rust, written from documents 01 and 02 alone; and the measuring
-//! of judging, the survey, single, the one form and reading: the engine beside these. One call takes the bytes of an automaton's file and of
-//! trees' files end to end, and gives the tally; or the bytes of an automaton's file, and gives the survey's verdict and plan, or the file in
-//! its one form; or the bytes of a tree's file, and gives the block whose check is wrong, or the nodes. `stream` measures whole programs.
+//! of judging, the survey, the quick check, single, the one form and reading: the engine beside these. One call takes the bytes of an
+//! automaton's file and of trees' files end to end, and gives the tally; or the bytes of an automaton's file, and gives the survey's verdict and
+//! plan, the quick check's answer, or the file in its one form; or the bytes of a tree's file, and gives the block whose check is wrong, or the
+//! nodes. `stream` measures whole programs.
 pub mod agreement;
 pub mod automaton;
 pub mod batch;
@@ -27,6 +28,8 @@ mod measure;
 mod parts;
 mod plain;
 pub mod quick;
+#[cfg(feature = "engine")]
+mod quicks;
 pub mod random;
 #[cfg(feature = "engine")]
 mod reads;
@@ -103,6 +106,8 @@ pub fn run() -> Result<(), String> {
     calls::run()?;
     #[cfg(feature = "engine")]
     surveys::run()?;
+    #[cfg(feature = "engine")]
+    quicks::run()?;
     #[cfg(feature = "engine")]
     singles::run()?;
     #[cfg(feature = "engine")]

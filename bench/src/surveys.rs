@@ -1,5 +1,6 @@
 //! The survey: the engine beside a Rust program that tries all candidates, on the cases that take longest by the
-//! definition (31 branch symbols, one new row a round), and on automata by chance, where the answers are compared.
+//! definition (31 branch symbols, one new row a round), on one where no row can stand for another, and on automata by
+//! chance, where the answers are compared.
 use crate::{
     agreement,
     automaton::{Automaton, Rule, LEFT, RIGHT, STAY, UP},
@@ -12,7 +13,13 @@ use std::time::Instant;
 
 const ROUNDS: usize = 5;
 const SMALL: u64 = 3000;
+/// Branch symbols: of the cases that take longest, and of the one where both sides count, for which the rules are many.
 const BRANCHES: usize = 31;
+const FEW_BRANCHES: usize = 11;
+/// The states that count the nodes of a spine, in cycles that each begin with the first of two numbers and have so many as
+/// the second; and the state that goes back up.
+const CYCLES: [(usize, usize); 3] = [(0, 3), (3, 4), (7, 7)];
+const BACK: usize = 14;
 /// Places by their bytes.
 const ROOT: u8 = 0;
 const LEFT_PLACE: u8 = 1;
@@ -23,41 +30,60 @@ struct Worst {
     make: fn(&mut Random) -> Automaton,
 }
 
-const WORST: [Worst; 3] = [
+const WORST: [Worst; 4] = [
     Worst { name: "left spines", make: |random| spines(LEFT_PLACE, LEFT, 0, random) },
     Worst { name: "right spines", make: |random| spines(RIGHT_PLACE, RIGHT, 0, random) },
     Worst { name: "with loops", make: |random| spines(LEFT_PLACE, LEFT, 40, random) },
+    Worst { name: "both sides", make: |_| both_sides() },
 ];
 
-/// Counts the nodes of the spine modulo 3, 4 and 7: 14 states go down, each in its cycle, and at the leaf the first of
-/// each cycle turns back. So trees with spines of unequal lengths (modulo 84) are inequivalent, and each round has one more.
-/// Some more transitions stay at the root, so that testing for acceptance has something to close.
-fn spines(place: u8, down: u8, stays: usize, random: &mut Random) -> Automaton {
-    let (leaf, back) = (BRANCHES, 14);
+/// Rules that count the nodes of the spine to one side modulo 3, 4 and 7, where they stand at a place: 14 states go down,
+/// each in its cycle, and at the leaf the first of each cycle turns back. So trees with spines of unequal lengths (modulo
+/// 84) are inequivalent, and each round has one more.
+fn counting(branches: usize, place: u8, down: u8) -> Vec<Rule> {
     let mut rules = Vec::new();
-    let mut rule = |symbol: usize, state: usize, place: u8, step: u8, next: usize| {
-        rules.push(Rule { symbol: symbol as u8, state: state as u8, place, step, next: next as u8 });
-    };
-    for (first, length) in [(0, 3), (3, 4), (7, 7)] {
-        rule(leaf, first, place, UP, back);
-        for i in 0..length {
-            for symbol in 0..BRANCHES {
-                rule(symbol, first + i, place, down, first + (i + 1) % length);
-            }
+    for (first, length) in CYCLES {
+        rules.push(rule(branches, first, place, UP, BACK));
+        for (symbol, i) in (0..branches).flat_map(|symbol| (0..length).map(move |i| (symbol, i))) {
+            rules.push(rule(symbol, first + i, place, down, first + (i + 1) % length));
         }
     }
-    for symbol in 0..BRANCHES {
-        rule(symbol, back, place, UP, back);
-    }
+    rules.extend((0..branches).map(|symbol| rule(symbol, BACK, place, UP, BACK)));
+    rules
+}
+
+fn rule(symbol: usize, state: usize, place: u8, step: u8, next: usize) -> Rule {
+    Rule { symbol: symbol as u8, state: state as u8, place, step, next: next as u8 }
+}
+
+/// Spines to one side. Some more transitions stay at the root, so that testing for acceptance has something to close.
+fn spines(place: u8, down: u8, stays: usize, random: &mut Random) -> Automaton {
+    let mut rules = counting(BRANCHES, place, down);
     for _ in 0..stays {
-        rule(random.below(BRANCHES), 16 + random.below(7), ROOT, STAY, 16 + random.below(7));
+        rules.push(rule(random.below(BRANCHES), 16 + random.below(7), ROOT, STAY, 16 + random.below(7)));
     }
+    surveyed(BRANCHES, rules)
+}
+
+/// Left spines, counted in right parts too, and into those the root steps in each counting state: rows that are unlike as
+/// left parts are unlike as right parts, and every one is met on both sides.
+fn both_sides() -> Automaton {
+    let mut rules = counting(FEW_BRANCHES, LEFT_PLACE, LEFT);
+    rules.extend(counting(FEW_BRANCHES, RIGHT_PLACE, LEFT));
+    for symbol in 0..FEW_BRANCHES {
+        rules.extend((0..BACK).map(|state| rule(symbol, state, ROOT, RIGHT, state)));
+    }
+    surveyed(FEW_BRANCHES, rules)
+}
+
+/// An automaton with some branch symbols and one leaf symbol that accepts nothing.
+fn surveyed(branches: usize, rules: Vec<Rule>) -> Automaton {
     Automaton {
         states: 24,
-        symbols: BRANCHES + 1,
+        symbols: branches + 1,
         initial: 1 << 16,
         accepting: 1 << 23,
-        branches: (1 << BRANCHES) - 1,
+        branches: (1 << branches) - 1,
         rules,
     }
 }
