@@ -12,8 +12,8 @@ use Rattle.model.specs.declared.Side.{Side}
 use Rattle.algorithms.specs.Automaton.{Automaton}
 use Rattle.tally.specs.declared.Tally.{Tally}
 use Rattle.counting.specs.Counting.{countedAll}
-use Rattle.determinization.specs.Cache.{indices, CachedIn}
-use Rattle.determinization.proofs.Empty.{zeros, no-pairs, empty}
+use Rattle.class_tables.specs.Cache.{indices, CachedIn}
+use Rattle.class_tables.proofs.Empty.{zeros, no-pairs, empty}
 use Rattle.batch.specs.Batch.{firstLength, restCounted, batchOf}
 use Rattle.batch.specs.Answers.{Part, Stopped}
 use Rattle.batch.specs.declared.part.Judged.{Judged}

@@ -11,7 +11,7 @@ use Rattle.model.specs.Trees.{Tree, leaf, node}
 use Rattle.model.specs.declared.Signature.{Signature}
 use Rattle.algorithms.specs.Automaton.{Automaton}
 use Rattle.nodes.specs.Preorder.{preorder, Writes}
-use Rattle.determinization.specs.Cache.{idOf, classes, CachedIn}
+use Rattle.class_tables.specs.Cache.{idOf, classes, CachedIn}
 use Rattle.passes.specs.Told.{heightOf}
 use Rattle.passes.specs.Stacked.{Parts}
 use Rattle.passes.specs.declared.Stack.{Stack}

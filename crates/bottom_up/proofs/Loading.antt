@@ -14,9 +14,9 @@ use Rattle.model.specs.declared.Signature.{Signature}
 use Rattle.algorithms.specs.Automaton.{Automaton, Proper}
 use Rattle.algorithms.specs.Overloops.{overloops}
 use Rattle.overloops.proofs.Laws.{leaf-formed}
-use Rattle.determinization.specs.Classes.{rowsOf, Tells, Node, Same}
-use Rattle.determinization.specs.Cache.{idOf, Right, classes, After}
-use Rattle.determinization.proofs.Laws.{node-tells}
+use Rattle.class_tables.specs.Classes.{rowsOf, Tells, Node, Same}
+use Rattle.class_tables.specs.Cache.{idOf, Right, classes, After}
+use Rattle.class_tables.proofs.Laws.{node-tells}
 use Rattle.passes.specs.Told.{heightOf, lowOf}
 use Rattle.passes.specs.Held.{Held}
 use Rattle.passes.specs.declared.Stack.{Stack}

@@ -4,7 +4,7 @@ use Prim.Native.Nat.{ℕ}
 use mathlib.Core.List.{List}
 use Rattle.model.specs.declared.Signature.{Signature}
 use Rattle.algorithms.specs.Automaton.{Automaton}
-use Rattle.determinization.specs.Cache.{classes, CachedIn}
+use Rattle.class_tables.specs.Cache.{classes, CachedIn}
 use Rattle.passes.specs.Stacked.{Stacked}
 use Rattle.passes.specs.declared.Stack.{Stack}
 use Rattle.bottom_up.specs.Told.{Classed}

@@ -6,8 +6,8 @@ use Rattle.model.specs.Trees.{leaf}
 use Rattle.model.specs.declared.Signature.{Signature}
 use Rattle.algorithms.specs.Automaton.{Automaton}
 use Rattle.nodes.specs.Preorder.{Writes}
-use Rattle.determinization.specs.Classes.{Tells}
-use Rattle.determinization.specs.Cache.{idOf}
+use Rattle.class_tables.specs.Classes.{Tells}
+use Rattle.class_tables.specs.Cache.{idOf}
 use Rattle.passes.specs.Told.{Words}
 use Rattle.passes.specs.Stacked.{Parts}
 use Rattle.bottom_up.specs.declared.Passed.{Passed}

@@ -2,12 +2,12 @@
 // 12 hold of every list for which it answers.
 use algorithms::is_branch;
 use automaton::Header;
-use determinization::Cells;
-use determinization::Counts;
-use determinization::Hints;
-use determinization::IndexMaps;
-use determinization::Store;
-use determinization::class_rows;
+use class_tables::Cells;
+use class_tables::Counts;
+use class_tables::Hints;
+use class_tables::IndexMaps;
+use class_tables::Store;
+use class_tables::class_rows;
 use determinization::leaf_word;
 use determinization::node_word;
 use model::Place;
@@ -40,7 +40,7 @@ ghost use Rattle.nodes.specs.Preorder.{Writes};
 ghost use Rattle.automaton.specs.File.{signatureIn};
 ghost use Rattle.overloops.specs.Tables.{Tabled};
 ghost use Rattle.overloops.specs.Ready.{Headed};
-ghost use Rattle.determinization.specs.Cache.{idOf, classes, CachedIn};
+ghost use Rattle.class_tables.specs.Cache.{idOf, classes, CachedIn};
 ghost use Rattle.passes.specs.Verdicts.{Tells};
 ghost use Rattle.bottom_up.specs.Told.{PassedRight};
 ghost use Rattle.bottom_up.specs.Steps.{Loaded, Stepped};

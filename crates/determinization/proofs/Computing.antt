@@ -12,9 +12,9 @@ use Rattle.algorithms.specs.Automaton.{Automaton}
 use Rattle.algorithms.specs.Overloops.{nodeOverloops}
 use Rattle.overloops.specs.Tables.{Put}
 use Rattle.overloops.proofs.Laws.{side-small, part-length, part-at, part-is}
-use Rattle.determinization.specs.Classes.{rowsPlace, rowsOf, Node, Same, IsClass}
-use Rattle.determinization.specs.Cache.{idOf, Right, classes, CachedIn, After}
-use Rattle.determinization.proofs.Keeping.{class-more, class-counted}
+use Rattle.class_tables.specs.Classes.{rowsPlace, rowsOf, Node, Same, IsClass}
+use Rattle.class_tables.specs.Cache.{idOf, Right, classes, CachedIn, After}
+use Rattle.determinization.proofs.Adding.{class-more, class-counted}
 
 -- both relations of class n, one after the other
 module _ (n : ℕ) (left right t t₁ t₂ : List ℕ) (size : length t ≡ 49152) (few : n < 1024) (hl : length left ≡ 24) (hr : length right ≡ 24)

@@ -1,5 +1,3 @@
--- The laws of classes and of the cache.
-pub mod Laws
-pub mod Keeping
+-- The laws of new classes.
+pub mod Adding
 pub mod Computing
-pub mod Empty

@@ -23,8 +23,8 @@ use Rattle.tree.specs.Unpacked.{Unpacked}
 use Rattle.tree.specs.declared.file.ParsedTree.{ParsedTree}
 use Rattle.overloops.specs.Ready.{Headed}
 use Rattle.membership.proofs.Laws.{judged-nodes}
-use Rattle.determinization.specs.Cache.{indices, CachedIn, Kept}
-use Rattle.determinization.proofs.Empty.{all-zero, empty, kept-cache}
+use Rattle.class_tables.specs.Cache.{indices, CachedIn, Kept}
+use Rattle.class_tables.proofs.Empty.{all-zero, empty, kept-cache}
 use Rattle.passes.specs.Verdicts.{Tells}
 use Rattle.passes.specs.declared.Verdict.{Verdict}
 use Rattle.judging.specs.Verdicts.{Judges}

@@ -1,14 +1,14 @@
 // What new classes a tree may bring. Trees add to a credit, those that are judged by the cache most, and each new class takes from it: where trees
 // keep bringing new ones, a cache costs more than it saves, and rests until there is credit again.
-use determinization::Cells;
-use determinization::Counts;
-use determinization::IndexMaps;
+use class_tables::Cells;
+use class_tables::Counts;
+use class_tables::IndexMaps;
 ghost use mathlib.Core.Path.{_≡_};
 ghost use mathlib.Core.List.{List};
 ghost use Prim.Native.Nat.{ℕ, _<_};
 ghost use lib.ListN.{length, getD};
 ghost use Rattle.algorithms.specs.Automaton.{Automaton};
-ghost use Rattle.determinization.specs.Cache.{CachedIn, Kept};
+ghost use Rattle.class_tables.specs.Cache.{CachedIn, Kept};
 
 // How large a node list is, about the blocks of its file, by which its credit goes.
 pub fn blocks_of(symbols: &[u8]) -> u32

@@ -9,11 +9,11 @@ use crate::credit::gain;
 use crate::credit::renew;
 use automaton::Header;
 use automaton::file::Parsed;
-use determinization::Cells;
-use determinization::Counts;
-use determinization::Hints;
-use determinization::IndexMaps;
-use determinization::Store;
+use class_tables::Cells;
+use class_tables::Counts;
+use class_tables::Hints;
+use class_tables::IndexMaps;
+use class_tables::Store;
 use membership::Answer;
 use passes::Verdict;
 use transitions::TransitionTable;
@@ -26,7 +26,7 @@ ghost use Rattle.overloops.specs.Ready.{Headed};
 ghost use Rattle.passes.specs.Verdicts.{Tells};
 ghost use Rattle.membership.specs.Judged.{judgedBy, judged};
 ghost use Rattle.membership.specs.Demand2.{Demand2};
-ghost use Rattle.determinization.specs.Cache.{CachedIn};
+ghost use Rattle.class_tables.specs.Cache.{CachedIn};
 ghost use Rattle.judging.specs.Verdicts.{Judges};
 
 // Judges a tree's file by a search over the configurations of the automaton on it: not known where the file is refused.

@@ -8,7 +8,7 @@ use lib.ListN.{length, drop, length-drop}
 use lib.Seq.{length-take-le}
 use Rattle.algorithms.specs.Automaton.{Automaton}
 use Rattle.overloops.specs.Ready.{Headed}
-use Rattle.determinization.specs.Cache.{CachedIn}
+use Rattle.class_tables.specs.Cache.{CachedIn}
 use Rattle.batch.specs.Batch.{batchOf}
 use Rattle.batch.proofs.Tallying.{begins, tally-ends, tally-goes-on, tally-rest}
 use borrow.Author.Needs.{needs}

@@ -9,7 +9,7 @@ use Rattle.algorithms.specs.Automaton.{Automaton}
 use Rattle.automaton.specs.File.{signatureIn}
 use Rattle.overloops.specs.Tables.{Tabled}
 use Rattle.nodes.proofs.Reached.{symbol-here}
-use Rattle.determinization.specs.Cache.{CachedIn}
+use Rattle.class_tables.specs.Cache.{CachedIn}
 use Rattle.bottom_up.specs.Steps.{Loaded}
 use Rattle.passes.proofs.Laws.{from}
 use Rattle.bottom_up.proofs.Ending.{begun, whole}

@@ -1,6 +1,6 @@
 -- `judging::judge_nodes` meets its contract: what the cache tells is so, and where it tells nothing the search does.
 -- Assumes nothing.
-use Rattle.determinization.proofs.Empty.{kept-cache}
+use Rattle.class_tables.proofs.Empty.{kept-cache}
 use borrow.Author.Needs.{needs}
 use Rattle.judging.proofs.judge_nodes.Statement.{statement}
 use Rattle.judging.proofs.judge_nodes.Tie as tie

@@ -11,7 +11,7 @@ use lib.ListN.{length, take, drop, length-drop}
 use lib.Seq.{length-take-le}
 use Rattle.algorithms.specs.Automaton.{Automaton}
 use Rattle.overloops.specs.Ready.{Headed}
-use Rattle.determinization.specs.Cache.{CachedIn}
+use Rattle.class_tables.specs.Cache.{CachedIn}
 use Rattle.tally.specs.Tally.{total}
 use Rattle.tally.specs.declared.Tally.{Tally}
 use Rattle.batch.specs.Answers.{Part}

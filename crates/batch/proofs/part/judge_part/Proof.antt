@@ -9,7 +9,7 @@ use lib.ListN.{length, drop, length-drop}
 use Rattle.algorithms.specs.Automaton.{Automaton}
 use Rattle.refusal.proofs.Passed.{clash}
 use Rattle.overloops.specs.Ready.{Headed}
-use Rattle.determinization.specs.Cache.{CachedIn}
+use Rattle.class_tables.specs.Cache.{CachedIn}
 use Rattle.batch.specs.Answers.{Part}
 use Rattle.batch.proofs.Parts.{begun, onward}
 use Rattle.batch.proofs.Pieces.{most-bytes}

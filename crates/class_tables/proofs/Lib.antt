@@ -1,0 +1,4 @@
+-- The laws of classes and of the cache.
+pub mod Laws
+pub mod Keeping
+pub mod Empty

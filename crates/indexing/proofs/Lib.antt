@@ -1,0 +1,2 @@
+-- The laws of indices.
+pub mod Sharing
