@@ -4,6 +4,7 @@ use model::Side;
 use model::Symbol;
 use overloops::put_rows;
 use overloops::rows_at;
+use overloops::side_number;
 use relation::Relation;
 ghost use mathlib.Core.Path.{_≡_};
 ghost use mathlib.Core.List.{List};
@@ -31,15 +32,6 @@ pub type Cells = [u64; 16384];
 // Where a class may be found by what depends on its pairs: 2,048 for classes, for left and for right indices. Nothing is known of these: what
 // they lead to is looked at.
 pub type Hints = [u16; 6144];
-
-pub fn side_number(side: Side) -> usize
-    ensures { λ r. ⌜ (r ≡ sideNumber side) × (r < 2) ⌝ }
-{
-    match side {
-        Side::Left => 0,
-        Side::Right => 1,
-    }
-}
 
 fn wide(x: u16) -> usize
     ensures { λ r. ⌜ (r ≡ x) × (r < 65536) ⌝ }
