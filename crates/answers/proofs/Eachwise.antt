@@ -1,10 +1,10 @@
 -- The answer to each file is what judging answers of that file alone.
 -- Assumes nothing.
-use Prim.Native.Nat.{ℕ, zero, suc, _+_, _-_, _*_, _/_, _<_, _≤_}
+use Prim.Native.Nat.{ℕ, zero, suc, _*_, _/_, _<_}
 use native.Mathlib.Omega.{arith}
-use mathlib.Core.Path.{_≡_, refl, sym, ap, _∙_}
+use mathlib.Core.Path.{_≡_, refl, ap, _∙_}
 use mathlib.Core.Bool.{Bool, true, false}
-use mathlib.Core.List.{List, [], _∷_, _++_}
+use mathlib.Core.List.{List, _∷_, _++_}
 use lib.Dec.{eqb}
 use lib.ListN.{length, take, drop, length-take}
 use Rattle.blocks.specs.Blocks.{content}
@@ -19,7 +19,7 @@ use Rattle.membership.specs.declared.Answer.{Answer}
 use Rattle.batch.specs.Batch.{restOf}
 use Rattle.batch.specs.Answers.{answersBy, firstAnswer, lastAnswer, answersOf, answerNumbers, allNumbers}
 use Rattle.batch.proofs.Answering.{answers-next}
-use Rattle.answers.specs.All.{answered, Outcome, outcome, judgedAll, fileIn, Each}
+use Rattle.answers.specs.All.{answered, judgedAll, fileIn, Each}
 use Rattle.answers.specs.declared.Judgement.{Judgement}
 
 -- the answer at a place of a list

@@ -11,7 +11,7 @@ ghost use mathlib.Core.List.{List};
 ghost use Prim.Native.Nat.{ℕ, _+_, _<_, _≤_};
 ghost use lib.ListN.{getD};
 ghost use Rattle.algorithms.specs.Automaton.{Automaton};
-ghost use Rattle.overloops.specs.Tables.{sideNumber, Put};
+ghost use Rattle.overloops.specs.Tables.{Put};
 ghost use Rattle.class_tables.specs.Classes.{rowsPlace, rowsOf, Node};
 ghost use Rattle.class_tables.specs.Cache.{indexPlace, indexAt, key, wordUnder, idOf, Right, classes, CachedIn};
 

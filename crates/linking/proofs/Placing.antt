@@ -6,12 +6,9 @@ use native.Mathlib.Decide.{decLt}
 use native.Mathlib.Omega.{arith}
 use mathlib.Core.Path.{_≡_, refl, sym, ap, _∙_}
 use mathlib.Core.List.{List}
-use lib.ListN.{getD, set}
-use lib.Seq.{getD-set-same, getD-set-other}
-use lib.ListN.{length, length-set}
+use lib.ListN.{getD}
 use Rattle.model.specs.Trees.{Tree, leaf, node, size}
 use Rattle.links.specs.Links.{parentsFrom, rightsFrom}
-use Rattle.links.proofs.Numbering.{some-nodes}
 use Rattle.links.proofs.Storing.{parents-length, rights-length}
 use Rattle.links.proofs.Linking.{left-part, right-part, head-parent, head-right}
 use Rattle.linking.specs.Placed.{LinkedFrom}

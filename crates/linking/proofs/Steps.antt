@@ -4,11 +4,11 @@ use Prim.Native.Nat.{ℕ, zero, suc, _+_, _<_, _≤_, max}
 use native.Mathlib.Omega.{arith}
 use mathlib.Core.Path.{_≡_, refl, sym, ap, _∙_}
 use mathlib.Core.Bool.{true, false}
-use mathlib.Core.List.{List, [], _∷_, _++_}
+use mathlib.Core.List.{List, _∷_, _++_}
 use lib.ListN.{length, getD, drop, set, length-set, length-append}
 use lib.Seq.{getD-set-same, getD-set-other}
 use Rattle.relation.specs.Sets.{member}
-use Rattle.model.specs.Trees.{Tree, leaf, node, size}
+use Rattle.model.specs.Trees.{Tree, size}
 use Rattle.model.specs.declared.Signature.{Signature}
 use Rattle.nodes.specs.Preorder.{preorder, Writes}
 use Rattle.nodes.proofs.Standing.{size-preorder}
@@ -21,7 +21,7 @@ use Rattle.passes.specs.Held.{Held}
 use Rattle.passes.specs.Stacked.{One}
 use Rattle.passes.specs.declared.Stack.{Stack}
 use Rattle.passes.proofs.Laws as passes
-use Rattle.passes.proofs.Laws.{Becomes, Two}
+use Rattle.passes.proofs.Laws.{Becomes}
 use Rattle.linking.specs.Placed.{LinkedFrom, Placed, Loaded}
 use Rattle.linking.proofs.Placing.{linked-kept, linked-leaf, linked-node}
 

@@ -7,7 +7,7 @@ use lib.ListN.{length, getD}
 use Rattle.model.specs.Trees.{Tree, size}
 use Rattle.model.specs.declared.Signature.{Signature}
 use Rattle.links.specs.Links.{parentsFrom, rightsFrom}
-use Rattle.passes.specs.Told.{lowOf, Words}
+use Rattle.passes.specs.Told.{lowOf}
 use Rattle.passes.specs.Stacked.{Stacked}
 use Rattle.passes.specs.declared.Stack.{Stack}
 use Rattle.linking.specs.declared.Step.{Step}

@@ -1,7 +1,7 @@
 -- `answers::judge_all` meets its contract: by what reading says.
 -- Assumes nothing.
 use Prim.Native.Nat.{ℕ}
-use mathlib.Core.Path.{_≡_, sym, ap₂, _∙_}
+use mathlib.Core.Path.{_≡_, sym, _∙_}
 use mathlib.Core.List.{List}
 use Rattle.blocks.specs.Blocks.{content}
 use Rattle.automaton.specs.File.{parsed}
