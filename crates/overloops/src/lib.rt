@@ -155,6 +155,7 @@ pub fn leaf_loops(table: &TransitionTable, states: usize, symbol: Symbol, place:
     )
 }
 
+// A side as the number that stands for it.
 pub fn side_number(side: Side) -> usize
     ensures { λ r. ⌜ (r ≡ sideNumber side) × (r < 2) ⌝ }
 {

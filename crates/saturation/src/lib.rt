@@ -28,7 +28,8 @@ pub enum Saturated {
     Empty(usize),
 }
 
-// The rounds, from no row on. Each but the last adds a row, so that they end.
+// The rounds, from no row on. As a round begins, the rows of the last are marked where they are doubles. Each but the last adds a row, so that
+// they end.
 pub fn saturate(
     table: &TransitionTable,
     leaves: &LeafTable,
