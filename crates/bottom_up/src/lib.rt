@@ -29,21 +29,20 @@ use transitions::TransitionTable;
 ghost use mathlib.Core.Path.{_≡_};
 ghost use mathlib.Core.Bool.{true, false};
 ghost use mathlib.Core.List.{List, _∷_};
-ghost use Prim.Native.Nat.{ℕ, _+_, _<_, _≤_, max};
+ghost use Prim.Native.Nat.{ℕ, _<_, _≤_};
 ghost use lib.ListN.{length, getD};
 ghost use Rattle.relation.specs.Sets.{member};
 ghost use Rattle.model.specs.Trees.{Tree, leaf, node};
 ghost use Rattle.algorithms.specs.Automaton.{Automaton};
 ghost use Rattle.algorithms.specs.Overloops.{overloops, accepts?};
 ghost use Rattle.model.specs.declared.Signature.{Signature};
-ghost use Rattle.nodes.specs.Preorder.{Writes};
 ghost use Rattle.automaton.specs.File.{signatureIn};
 ghost use Rattle.overloops.specs.Tables.{Tabled};
 ghost use Rattle.overloops.specs.Ready.{Headed};
-ghost use Rattle.class_tables.specs.Cache.{idOf, classes, CachedIn};
+ghost use Rattle.class_tables.specs.Cache.{idOf, Right, classes, CachedIn, After};
 ghost use Rattle.passes.specs.Verdicts.{Tells};
 ghost use Rattle.bottom_up.specs.Told.{PassedRight};
-ghost use Rattle.bottom_up.specs.Steps.{Loaded, Stepped};
+ghost use Rattle.bottom_up.specs.Steps.{Leafed, Loaded, Stepped};
 
 // What the pass found: the classes of the root's parts; that the root is a leaf, and all; or nothing.
 enum Passed {
@@ -65,6 +64,39 @@ enum Step {
     Off,
 }
 
+// The words of the leaves that this pass met, by symbol; 0 for one that it did not.
+type LeafWords = [u32; 32];
+
+// The word of a leaf: the one that was met, or from the cache.
+fn leaf_met(
+    table: &TransitionTable,
+    states: usize,
+    symbol: Symbol,
+    leaves: &mut LeafWords,
+    counts: &mut Counts,
+    store: &mut Store,
+    maps: &mut IndexMaps,
+    cells: &mut Cells,
+    hints: &mut Hints,
+) -> u32
+    requires { ⌜ (states ≤ 24) × (symbol .0 < 32) ⌝ }
+    ensures { λ r. ⌜ ((A : Automaton) → Tabled A states (now (table .entry))
+        → CachedIn A (now (counts .entry)) (now (store .entry)) (now (maps .entry)) (now (cells .entry))
+        → Leafed A (classes (now (counts .entry))) (now (store .entry)) (now (leaves .entry))
+        → After A (now (counts .entry)) (now (store .entry)) (now (counts .exit)) (now (store .exit)) (now (maps .exit)) (now (cells .exit))
+        × Leafed A (classes (now (counts .exit))) (now (store .exit)) (now (leaves .exit))
+        × Right A (classes (now (counts .exit))) (now (store .exit)) (symbol .0) 0 0 r) ⌝ }
+{
+    let at = symbol.0 as usize;
+    let met = leaves[at];
+    if met != 0 {
+        return met;
+    }
+    let word = leaf_word(table, states, symbol, counts, store, maps, cells, hints);
+    leaves[at] = word;
+    word
+}
+
 // A leaf.
 fn leaf_step(
     table: &TransitionTable,
@@ -72,6 +104,7 @@ fn leaf_step(
     symbol: Symbol,
     stack: Stack,
     words: &mut [u64; 128],
+    leaves: &mut LeafWords,
     counts: &mut Counts,
     store: &mut Store,
     maps: &mut IndexMaps,
@@ -81,8 +114,8 @@ fn leaf_step(
     requires { ⌜ (states ≤ 24) × (symbol .0 < 32) ⌝ }
     ensures { λ r. ⌜ ((A : Automaton) (sg : Signature) (s : List ℕ) → Tabled A states (now (table .entry)) → symbol .0 < sg .symbols
         → member (sg .branches) (symbol .0) ≡ false
-        → Loaded A sg (now (counts .entry)) (now (store .entry)) (now (maps .entry)) (now (cells .entry)) (now (words .entry)) s stack
-        → Stepped A sg (now (counts .exit)) (now (store .exit)) (now (maps .exit)) (now (cells .exit)) (now (words .exit)) (symbol .0 ∷ s) r) ⌝ }
+        → Loaded A sg (now (counts .entry)) (now (store .entry)) (now (maps .entry)) (now (cells .entry)) (now (leaves .entry)) (now (words .entry)) s stack
+        → Stepped A sg (now (counts .exit)) (now (store .exit)) (now (maps .exit)) (now (cells .exit)) (now (leaves .exit)) (now (words .exit)) (symbol .0 ∷ s) r) ⌝ }
 {
     if stack.top == 0 {
         return Step::Off;
@@ -90,7 +123,17 @@ fn leaf_step(
     if 128 < stack.top {
         return Step::Off;
     }
-    let word = leaf_word(table, states, symbol, counts, store, maps, cells, hints);
+    let word = leaf_met(
+        table,
+        states,
+        symbol,
+        leaves,
+        counts,
+        store,
+        maps,
+        cells,
+        hints,
+    );
     if word == 0 {
         return Step::Off;
     }
@@ -111,10 +154,10 @@ fn branch_step(
     hints: &mut Hints,
 ) -> Step
     requires { ⌜ (states ≤ 24) × (symbol .0 < 32) ⌝ }
-    ensures { λ r. ⌜ ((A : Automaton) (sg : Signature) (s : List ℕ) → Tabled A states (now (table .entry)) → symbol .0 < sg .symbols
+    ensures { λ r. ⌜ ((A : Automaton) (sg : Signature) (leaves s : List ℕ) → Tabled A states (now (table .entry)) → symbol .0 < sg .symbols
         → member (sg .branches) (symbol .0) ≡ true
-        → Loaded A sg (now (counts .entry)) (now (store .entry)) (now (maps .entry)) (now (cells .entry)) (now (words .entry)) s stack
-        → Stepped A sg (now (counts .exit)) (now (store .exit)) (now (maps .exit)) (now (cells .exit)) (now (words .exit)) (symbol .0 ∷ s) r) ⌝ }
+        → Loaded A sg (now (counts .entry)) (now (store .entry)) (now (maps .entry)) (now (cells .entry)) leaves (now (words .entry)) s stack
+        → Stepped A sg (now (counts .exit)) (now (store .exit)) (now (maps .exit)) (now (cells .exit)) leaves (now (words .exit)) (symbol .0 ∷ s) r) ⌝ }
 {
     if 126 < stack.top {
         return Step::Off;
@@ -150,6 +193,7 @@ fn node_step(
     symbol: Symbol,
     stack: Stack,
     words: &mut [u64; 128],
+    leaves: &mut LeafWords,
     counts: &mut Counts,
     store: &mut Store,
     maps: &mut IndexMaps,
@@ -158,8 +202,8 @@ fn node_step(
 ) -> Step
     requires { ⌜ (header .states ≤ 24) × (header .symbols ≤ 32) ⌝ }
     ensures { λ r. ⌜ ((A : Automaton) (s : List ℕ) → Tabled A (header .states) (now (table .entry))
-        → Loaded A (signatureIn header) (now (counts .entry)) (now (store .entry)) (now (maps .entry)) (now (cells .entry)) (now (words .entry)) s stack
-        → Stepped A (signatureIn header) (now (counts .exit)) (now (store .exit)) (now (maps .exit)) (now (cells .exit)) (now (words .exit)) (symbol .0 ∷ s) r) ⌝ }
+        → Loaded A (signatureIn header) (now (counts .entry)) (now (store .entry)) (now (maps .entry)) (now (cells .entry)) (now (leaves .entry)) (now (words .entry)) s stack
+        → Stepped A (signatureIn header) (now (counts .exit)) (now (store .exit)) (now (maps .exit)) (now (cells .exit)) (now (leaves .exit)) (now (words .exit)) (symbol .0 ∷ s) r) ⌝ }
 {
     if header.symbols <= symbol.0 {
         return Step::Off;
@@ -185,6 +229,7 @@ fn node_step(
             symbol,
             stack,
             words,
+            leaves,
             counts,
             store,
             maps,
@@ -196,7 +241,7 @@ fn node_step(
 
 // The end of the pass, at the root.
 fn ended(header: Header, symbol: Symbol, stack: Stack) -> Passed
-    ensures { λ r. ⌜ ((A : Automaton) (counts store maps cells words s : List ℕ) → Loaded A (signatureIn header) counts store maps cells words s stack
+    ensures { λ r. ⌜ ((A : Automaton) (counts store maps cells leaves words s : List ℕ) → Loaded A (signatureIn header) counts store maps cells leaves words s stack
         → PassedRight A (signatureIn header) (classes counts) store (symbol .0 ∷ s) r) ⌝ }
 {
     if header.symbols <= symbol.0 {
@@ -238,6 +283,7 @@ fn pass(
         × PassedRight A (signatureIn header) (classes (now (counts .exit))) (now (store .exit)) (now (symbols .entry)) r) ⌝ }
 {
     let mut words = [0u64; 128];
+    let mut leaves = [0u32; 32];
     let mut stack = Stack {
         top: 128,
         first: 0,
@@ -255,6 +301,7 @@ fn pass(
             symbol,
             stack,
             &mut words,
+            &mut leaves,
             counts,
             store,
             maps,

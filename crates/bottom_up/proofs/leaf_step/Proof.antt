@@ -12,11 +12,11 @@ returns c = λ A sg s k small m h. h .cached
 returns-2 : tie.Need-returns-2
 returns-2 c = λ A sg s k small m h. h .cached
 
-leaf-word-requires : tie.Need-leaf-word-requires
-leaf-word-requires c κs = search needs
+leaf-met-requires : tie.Need-leaf-met-requires
+leaf-met-requires c κs = search needs
 
 returns-3 : tie.Need-returns-3
-returns-3 c = λ A sg s k small m h. c .before .leaf-word .ensures A k (h .cached) .0 .cached
+returns-3 c = λ A sg s k small m h. c .before .leaf-met .ensures A k (h .cached) (h .leafed) .0 .cached
 
 packed-requires : tie.Need-packed-requires
 packed-requires c κs = search needs
@@ -25,7 +25,7 @@ push-requires : tie.Need-push-requires
 push-requires c κs = search needs
 
 returns-4 : tie.Need-returns-4
-returns-4 c = λ A sg s k small m h. let read = c .before .before .before .before .leaf-word .ensures A k (h .cached) in leaf-on A sg _ _ _ _ _ _ _ _ s _ _ _ _ _ _ _ (k .proper) h (read .0) (read .1) (omega (arith, c .before .before .before .if3 .left)) small m (c .before .packed .ensures) (c .push .ensures .1)
+returns-4 c = λ A sg s k small m h. let read = c .before .before .before .before .leaf-met .ensures A k (h .cached) (h .leafed) in leaf-on A sg _ _ _ _ _ _ _ _ _ s _ _ _ _ _ _ _ _ (k .proper) h (read .0) (read .1) (read .2) (omega (arith, c .before .before .before .if3 .left)) small m (c .before .packed .ensures) (c .push .ensures .1)
 
 pub leaf-step-spec : {M : Type 1} → statement M
 leaf-step-spec =
@@ -33,7 +33,7 @@ leaf-step-spec =
     (tie.spec
     returns
     returns-2
-    leaf-word-requires
+    leaf-met-requires
     returns-3
     packed-requires
     push-requires

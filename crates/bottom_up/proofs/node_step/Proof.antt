@@ -22,10 +22,10 @@ leaf-step-requires : tie.Need-leaf-step-requires
 leaf-step-requires c κs = search needs
 
 returns-2 : tie.Need-returns-2
-returns-2 c = λ A s k h. c .branch-step .ensures A _ s k (omega (arith, c .before .before .before .before .before .before .before .before .before .before .if1 .left)) (sym (c .before .before .before .before .before .before .before .before .is-branch .ensures) ∙ c .before .before .before .before .before .before .before .if2 .taken) h
+returns-2 c = λ A s k h. c .branch-step .ensures A _ _ s k (omega (arith, c .before .before .before .before .before .before .before .before .before .before .if1 .left)) (sym (c .before .before .before .before .before .before .before .before .is-branch .ensures) ∙ c .before .before .before .before .before .before .before .if2 .taken) h
 
 returns-3 : tie.Need-returns-3
-returns-3 c = λ A s k h. c .leaf-step .ensures A _ s k (omega (arith, c .before .before .before .before .before .before .before .before .before .before .if1 .left)) (sym (c .before .before .before .before .before .before .before .before .is-branch .ensures) ∙ c .before .before .before .before .before .before .before .if2 .left) h
+returns-3 c = λ A s k h. c .leaf-step .ensures A _ s k (omega (arith, c .before .before .before .before .before .before .before .before .before .before .before .if1 .left)) (sym (c .before .before .before .before .before .before .before .before .before .is-branch .ensures) ∙ c .before .before .before .before .before .before .before .before .if2 .left) h
 
 pub node-step-spec : {M : Type 1} → statement M
 node-step-spec =

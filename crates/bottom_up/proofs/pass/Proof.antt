@@ -1,6 +1,7 @@
 -- `bottom_up::pass` meets its contract. The invariant: the stack tells of the trees that the list writes from a node on.
 -- Assumes nothing.
 use borrow.Author.Needs.{needs}
+use Rattle.relation.proofs.Pairs.{zeros}
 use Prim.Native.Nat.{_≤_, _<_}
 use native.Mathlib.Omega.{arith}
 use mathlib.Core.Path.{_≡_, refl, sym, _∙_}
@@ -17,15 +18,15 @@ use Rattle.bottom_up.proofs.pass.Statement.{statement}
 use Rattle.bottom_up.proofs.pass.Tie as tie
 
 abbrev Inv-loop : tie.InvT-loop
-Inv-loop symbols header table counts₀ store₀ maps₀ cells₀ hints₀ words₀ stack₀ at₀ counts store maps cells hints words stack at =
+Inv-loop symbols header table counts₀ store₀ maps₀ cells₀ hints₀ words₀ leaves₀ stack₀ at₀ counts store maps cells hints words leaves stack at =
     (0 < at) × (at ≤ length symbols) × ((A : Automaton) → Tabled A (header .states) table → CachedIn A counts₀ store₀ maps₀ cells₀
-    → Loaded A (signatureIn header) counts store maps cells words (drop at symbols) stack)
+    → Loaded A (signatureIn header) counts store maps cells leaves words (drop at symbols) stack)
 
 abbrev μ-loop : tie.MeasureT-loop
-μ-loop symbols header table counts₀ store₀ maps₀ cells₀ hints₀ words₀ stack₀ at₀ counts store maps cells hints words stack at = at
+μ-loop symbols header table counts₀ store₀ maps₀ cells₀ hints₀ words₀ leaves₀ stack₀ at₀ counts store maps cells hints words leaves stack at = at
 
 loop-holds : tie.Need-loop-holds Inv-loop μ-loop
-loop-holds c = (search needs, search needs, λ A k h. begun A _ _ _ _ _ _ (c .before .args .symbols .now) refl h)
+loop-holds c = (search needs, search needs, λ A k h. begun A _ _ _ _ _ _ _ (c .before .args .symbols .now) refl (zeros 32) h)
 
 sub-at : tie.Need-sub-at Inv-loop μ-loop
 sub-at c = search needs
@@ -53,10 +54,10 @@ loop-less c = search needs
 
 loop-again : tie.Need-loop-again Inv-loop μ-loop
 loop-again c =
-    let v = c .before .before .before .before .before .before .before .before .before .before .before .before .before .before .before .loop .inv in
+    let v = c .before .before .before .before .before .before .before .before .before .before .before .before .before .before .before .before .loop .inv in
     let on = c .before .next .given .1 in
-    let here = symbol-here _ _ _ (sym (c .before .before .before .before .before .before .before .before .before .before .before .symbol .given .1) ∙ c .before .before .before .before .before .before .before .before .before .before .before .before .before .read-at .ensures) in (
-      omega (arith, c .before .before .before .before .before .before .before .before .before .before .before .before .before .before .loop-test .taken),
+    let here = symbol-here _ _ _ (sym (c .before .before .before .before .before .before .before .before .before .before .before .before .symbol .given .1) ∙ c .before .before .before .before .before .before .before .before .before .before .before .before .before .before .read-at .ensures) in (
+      omega (arith, c .before .before .before .before .before .before .before .before .before .before .before .before .before .before .before .loop-test .taken),
       omega (arith, v .1),
       λ A k h.
           rw (from _ _ (v .0) (v .1), ← here .1) (rw on at (c .before .before .before .node-step .ensures A _ k (v .2 A k h))),
@@ -66,10 +67,10 @@ enum-told-2 : tie.Need-enum-told-2 Inv-loop μ-loop
 enum-told-2 c = search needs
 
 returns-2 : tie.Need-returns-2 Inv-loop μ-loop
-returns-2 c = λ A k h. (rw (c .enum-told2 .given .1) at (c .before .before .node-step .ensures A _ k (c .before .before .before .before .before .before .before .before .before .before .before .before .before .before .loop .inv .2 A k h)), tt)
+returns-2 c = λ A k h. (rw (c .enum-told2 .given .1) at (c .before .before .node-step .ensures A _ k (c .before .before .before .before .before .before .before .before .before .before .before .before .before .before .before .loop .inv .2 A k h)), tt)
 
-shared-slice-read-t24 : tie.Need-shared-slice-read-t24 Inv-loop μ-loop
-shared-slice-read-t24 c = search needs
+shared-slice-read-t26 : tie.Need-shared-slice-read-t26 Inv-loop μ-loop
+shared-slice-read-t26 c = search needs
 
 ended-requires : tie.Need-ended-requires Inv-loop μ-loop
 ended-requires c κs = search needs
@@ -79,7 +80,7 @@ returns-3 c = λ A k h.
     let v = c .before .before .before .loop .inv in
     let one : c .before .before .before .loop .at ≡ 1 = omega (arith, v .0, c .before .before .loop-test .left) in
     let read = v .2 A k h in
-    (read .cached, rw (whole (c .before .before .before .before .before .args .symbols .now) (c .before .before .before .loop .at) one (c .before .before .before .before .before .pre .0)) at (c .ended .ensures A _ _ _ _ _ _ read))
+    (read .cached, rw (whole (c .before .before .before .before .before .args .symbols .now) (c .before .before .before .loop .at) one (c .before .before .before .before .before .pre .0)) at (c .ended .ensures A _ _ _ _ _ _ _ read))
 
 pub pass-spec : {M : Type 1} → statement M
 pass-spec =
@@ -99,6 +100,6 @@ pass-spec =
     loop-again
     enum-told-2
     returns-2
-    shared-slice-read-t24
+    shared-slice-read-t26
     ended-requires
     returns-3)
