@@ -11,7 +11,6 @@ use crate::{
 const REPEATS: usize = 16;
 const WARM_REPEATS: usize = 256;
 const ROUNDS: usize = 10;
-const FEW_ROUNDS: usize = 3;
 /// Trees of an automaton that come once each.
 const LARGE: usize = 128;
 const SMALL: usize = 2048;
@@ -27,25 +26,29 @@ pub fn run() -> Result<(), String> {
     again(
         "",
         REPEATS,
-        ROUNDS,
         &with_engine(&[TABLES, PLAIN, CONFIGURATIONS, LAZY]),
         &[Peer::One(TABLES), Peer::One(PLAIN), Peer::One(LAZY)],
     )?;
-    again("\nwarm: ", WARM_REPEATS, FEW_ROUNDS, &with_engine(&[LAZY]), &[Peer::One(LAZY)])?;
+    again(
+        "\nwarm: ",
+        WARM_REPEATS,
+        &with_engine(&[CONFIGURATIONS, LAZY]),
+        &[Peer::One(CONFIGURATIONS), Peer::One(LAZY)],
+    )?;
     once("classes explode, 4,095 nodes", &EXPLODING, LARGE, families::large_tree)?;
     once("trees that come once each, 4,095 nodes", &FAMILIES, LARGE, families::large_tree)?;
     once("small trees that come once each, 5 to 59 nodes", &FAMILIES, SMALL, families::small_tree)
 }
 
 /// The families, each tree several times.
-fn again(kind: &str, repeats: usize, rounds: usize, which: &[usize], peers: &[Peer]) -> Result<(), String> {
+fn again(kind: &str, repeats: usize, which: &[usize], peers: &[Peer]) -> Result<(), String> {
     let inputs = |family: &Family| family.cases().iter().map(|case| Input::repeated(case, repeats)).collect();
     let groups = groups(&FAMILIES, inputs)?;
     let title = format!(
-        "{kind}microseconds a tree (4,095 nodes, 24 states, 512 rules) in batches of {} trees of one automaton, best of {rounds} rounds:",
+        "{kind}microseconds a tree (4,095 nodes, 24 states, 512 rules) in batches of {} trees of one automaton, best of {ROUNDS} rounds:",
         4 * repeats
     );
-    report::print(&Table { title, digits: 1, columns: which, peers }, &measure::measure(groups, which, rounds)?);
+    report::print(&Table { title, digits: 1, columns: which, peers }, &measure::measure(groups, which, ROUNDS)?);
     Ok(())
 }
 
@@ -55,9 +58,9 @@ fn once(kind: &str, families: &[Family], trees: usize, tree: Make) -> Result<(),
     let groups = groups(families, inputs)?;
     let which = with_engine(&[TABLES, CONFIGURATIONS, LAZY]);
     let title =
-        format!("\n{kind}, microseconds a tree in batches of {trees} of one automaton, best of {FEW_ROUNDS} rounds:");
+        format!("\n{kind}, microseconds a tree in batches of {trees} of one automaton, best of {ROUNDS} rounds:");
     let table = Table { title, digits: 2, columns: &which, peers: &[WITHOUT_CLASSES, Peer::One(LAZY)] };
-    report::print(&table, &measure::measure(groups, &which, FEW_ROUNDS)?);
+    report::print(&table, &measure::measure(groups, &which, ROUNDS)?);
     Ok(())
 }
 
