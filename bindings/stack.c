@@ -131,11 +131,16 @@ static void add_comb(int left, int large, int level)
         add_comb(left, large, level + 1);
 }
 
-enum { NONE, LEFT, RIGHT, LARGE_LEFT, LARGE_RIGHT, FULL, LETTERS };
+/* The first two are refused. */
+enum { NONE, HIGH, LEFT, RIGHT, LARGE_LEFT, LARGE_RIGHT, FULL, LETTERS };
 
 static size_t write_letter(uint8_t *file, int letter)
 {
     count = 0;
+    if (letter == HIGH) {
+        add_node(0);
+        add_full(0);
+    }
     if (letter == FULL)
         add_full(11);
     else
@@ -160,8 +165,8 @@ static void make_log(void)
     input.log_length = end < 4 ? 3 * (told[0] + 1) : 0;
 }
 
-/* Each pair of a walker (none, the one, it with the start state final, and the one with place 3) and a letter (none, then combs: left,
- * right, and both large; and the full tree). */
+/* Each pair of a walker (none, the one, it with the start state final, and the one with place 3) and a letter (none, a comb that is
+ * one level too high, which 12 refuses, then combs: left, right, and both large; and the full tree). */
 enum { LARGEST = 1, PASSING, SPREAD, WALKERS, INPUTS = WALKERS * LETTERS };
 
 static void make_input(int number)
@@ -367,19 +372,25 @@ static size_t most_of(void (*call)(void))
     return most;
 }
 
+/* The number by which a letter is refused. */
+static size_t refusal_of(int letter)
+{
+    return letter == NONE ? 1 : 12;
+}
+
 /* Whether the last walk is refused with the letter, circles on a comb of 129 nodes, and is spent on a large letter. */
 static int watch_right(int letter)
 {
-    if (letter == NONE)
-        return answer == 4 && told[0] == 1 && told[1] == 1;
+    if (letter <= HIGH)
+        return answer == 4 && told[0] == refusal_of(letter) && told[1] == 1;
     return letter < LARGE_LEFT ? answer == 2 && told[0] == 129 * 24 : answer == 3 && told[0] == BUDGET;
 }
 
 /* Whether the logs are refused with the letter, and are otherwise a lawful walk to their end. */
 static int compare_right(int letter)
 {
-    if (letter == NONE)
-        return answer == 1 && told[0] == 1 && told[1] == 1 && counts[0] + counts[1] + counts[2] == 0;
+    if (letter <= HIGH)
+        return answer == 1 && told[0] == refusal_of(letter) && told[1] == 1 && counts[0] + counts[1] + counts[2] == 0;
     size_t entries = letter < LARGE_LEFT ? 129 * 24 + 1 : BUDGET + 1;
     return answer == 0 && counts[0] == 3 * entries && counts[1] == entries && counts[2] == entries;
 }
@@ -392,7 +403,7 @@ static int inputs_right(void)
         make_input(number);
         call_judge();
         int walker = number / LETTERS, letter = number % LETTERS;
-        uint32_t verdict = walker == NONE || letter == NONE ? 2 : walker != PASSING;
+        uint32_t verdict = walker == NONE || letter <= HIGH ? 2 : walker != PASSING;
         if (answer != verdict || (letter >= LARGE_LEFT && input.letter_length != LETTER))
             return 0;
         call_survey();
