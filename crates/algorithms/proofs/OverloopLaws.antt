@@ -10,6 +10,7 @@ use lib.ListN.{length, getD}
 use lib.Dec.{T}
 use Rattle.relation.proofs.BitLaws.{bit-zero}
 use Rattle.relation.specs.Rows.{has, noPairs, joined, composed, closed}
+use Rattle.relation.specs.Growth.{growthOf}
 use Rattle.relation.proofs.Pairs.{has-none, has-joined, has-composed, meeting-has}
 use Rattle.relation.specs.Chain.{Within, Chain as Pairs, stop, step}
 use Rattle.relation.proofs.ChainLaws.{has-closed, within-closed}
@@ -25,8 +26,9 @@ use Rattle.model.proofs.Loops.{loop-leaf}
 use Rattle.model.proofs.FromParts.{Same, sides, parts-by, loop-node-by, overloop-node}
 use Rattle.algorithms.specs.Automaton.{Automaton, In, Δ, Accepted, Proper}
 use Rattle.algorithms.proofs.Tests.{T-true}
-use Rattle.algorithms.specs.Overloops.{rowsFrom, moves, nodeSimple, leafLoops, nodeLoops, upClosure, leafOverloops, nodeOverloops, overloops, loops}
+use Rattle.algorithms.specs.Overloops.{rowsFrom, moves, leafSimple, nodeSimple, leafLoops, nodeLoops, upClosure, leafOverloops, nodeOverloops, overloops, loops}
 use Rattle.algorithms.specs.Overloops.{acceptedBy, accepts?}
+use Rattle.algorithms.specs.Growth.{leafGrowth, nodeGrowth}
 
 -- ---- rows made of a function
 
@@ -171,21 +173,28 @@ module _ (A : Automaton) (P : Proper A) where
       within-nodeLoops = within-closed n simples (P .few) within-simples
 
   -- A leaf is a node whose parts have no overloops: one function forms the loops of both.
-  pub leaf-as-node : (τ : Place) (σ : ℕ) → leafLoops A τ σ ≡ nodeLoops A τ σ noPairs noPairs
-  unfolding leafLoops nodeLoops simples
-  leaf-as-node τ σ =
+  leaf-given : (τ : Place) (σ : ℕ) → leafSimple A τ σ ≡ nodeSimple A τ σ noPairs noPairs
+  unfolding simples
+  leaf-given τ σ =
       let w = within-none n in
-      ap (closed n)
-      (same-pairs (moves A σ τ Stay) (simples τ σ noPairs noPairs w w) (within-moves σ τ Stay) (within-simples τ σ noPairs noPairs w w)
+      same-pairs (moves A σ τ Stay) (simples τ σ noPairs noPairs w w) (within-moves σ τ Stay) (within-simples τ σ noPairs noPairs w w)
       (λ p q. (
         λ h. has-simples τ σ noPairs noPairs w w p q .1 (loop-here (has-moves σ τ Stay p q .0 h)),
         λ h. only-here p q (has-simples τ σ noPairs noPairs w w p q .0 h),
-      )))
+      ))
     where
       only-here : (p q : ℕ) → Simple (Δ A) τ σ (sides (has noPairs) (has noPairs)) p q → has (moves A σ τ Stay) p q
       only-here p q (loop-here d) = has-moves σ τ Stay p q .1 d
       only-here p q (loop-down {m = m} Left d x) = absurd (has-none m q x)
       only-here p q (loop-down {m = m} Right d x) = absurd (has-none m q x)
+
+  pub leaf-as-node : (τ : Place) (σ : ℕ) → leafLoops A τ σ ≡ nodeLoops A τ σ noPairs noPairs
+  unfolding leafLoops nodeLoops
+  leaf-as-node τ σ = ap (closed n) (leaf-given τ σ)
+
+  pub leaf-grows-as-node : (τ : Place) (σ : ℕ) → leafGrowth A τ σ ≡ nodeGrowth A τ σ noPairs noPairs
+  unfolding leafGrowth nodeGrowth
+  leaf-grows-as-node τ σ = ap (growthOf n) (leaf-given τ σ)
 
   -- ---- the way up
   module _ (τ : Place) (σ : ℕ) (X : List ℕ) (w : Within n X) where

@@ -1,7 +1,7 @@
 -- The cache: lent tables that hold the classes met so far and, of nodes over them, the classes that were computed. 0 is: not known yet.
 -- At a symbol a class has an index as a left part and one as a right part; classes that do the same there may share it. A cell is a key, made
--- of the indices of a node's two parts, over a word, which names the node's class. Where a key stands among the cells does not matter.
--- Interface: `indexAt`, `key`, `wordUnder`, `idOf`, `Right`, `classes`, `indices`, `CachedIn`, `After`, `Kept`.
+-- of the indices of a node's two parts, over a word, which names the node's class and has its growths. Where a key stands among the cells does not matter.
+-- Interface: `indexAt`, `key`, `wordUnder`, `Right`, `classes`, `indices`, `CachedIn`, `After`, `Kept`.
 use Prim.Native.Nat.{ℕ, _+_, _*_, _/_, _%_, _<_, _≤_}
 use mathlib.Core.Path.{_≡_}
 use mathlib.Core.Bool.{cond}
@@ -12,7 +12,7 @@ use Rattle.relation.specs.Rows.{noPairs}
 use Rattle.model.specs.declared.Side.{Side}
 use Rattle.algorithms.specs.Automaton.{Automaton}
 use Rattle.overloops.specs.Tables.{sideNumber}
-use Rattle.class_tables.specs.Classes.{rowsOf, Node, Alike, Same}
+use Rattle.class_tables.specs.Classes.{rowsOf, idOf, Node, Alike, Same}
 
 -- the index of class i as a part on a side of a node with the symbol σ, and where it stands
 abbrev pub indexPlace : Side → (σ i : ℕ) → ℕ
@@ -35,13 +35,9 @@ wordIn cell = cell % 4294967296
 unfoldable pub wordUnder : (cell k : ℕ) → ℕ
 wordUnder cell k = cond (eqb (keyIn cell) k) (wordIn cell) 0
 
--- the class that a word names
-abbrev pub idOf : ℕ → ℕ
-idOf w = w % 1024
-
--- a word that is not 0 names the class of the node
+-- a word that is not 0 names the class of the node, one of those there are, and tells its growths
 abbrev pub Right : Automaton → (count : ℕ) (store : List ℕ) (σ l r w : ℕ) → Type 0
-Right A count store σ l r w = 0 < w → (idOf w < count) × Node A store σ l r (idOf w)
+Right A count store σ l r w = 0 < w → (idOf w < count) × Node A store σ l r w
 
 -- what the table of counts has: the classes there are, and the indices in use on a side (index 0 is none)
 abbrev pub classes : (counts : List ℕ) → ℕ

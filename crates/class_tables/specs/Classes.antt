@@ -1,6 +1,6 @@
 -- Classes of trees: the overloops as a left part and as a right part, 48 words a class in a lent store.
--- Interface: `rowsOf`, `Tells`, `Node`, `Alike`, `Same`, `IsClass`.
-use Prim.Native.Nat.{ℕ, _+_, _*_, _<_}
+-- Interface: `rowsOf`, `Tells`, `idOf`, `growthIn`, `TellsWord`, `Node`, `Alike`, `Same`, `IsClass`.
+use Prim.Native.Nat.{ℕ, _+_, _*_, _/_, _%_, _<_}
 use mathlib.Core.Path.{_≡_}
 use mathlib.Core.List.{List}
 use lib.ListN.{take, drop}
@@ -11,6 +11,7 @@ use Rattle.model.specs.declared.Place.{Place}
 use Rattle.model.specs.declared.Move.{Move}
 use Rattle.algorithms.specs.Automaton.{Automaton}
 use Rattle.algorithms.specs.Overloops.{moves, overloops, nodeOverloops}
+use Rattle.algorithms.specs.Growth.{ownGrowth, nodeGrowth}
 use Rattle.overloops.specs.Tables.{sideNumber}
 
 -- where the rows of class i as a part on a side begin, and the rows
@@ -24,9 +25,22 @@ rowsOf store i s = take 24 (drop (rowsPlace i s) store)
 abbrev pub Tells : Automaton → (store : List ℕ) (i : ℕ) → Tree → Type 0
 Tells A store i t = (s : Side) → rowsOf store i s ≡ overloops A (Place.Child s) t
 
--- class i is that of a node with the symbol σ over parts of the classes l and r
-abbrev pub Node : Automaton → (store : List ℕ) (σ l r i : ℕ) → Type 0
-Node A store σ l r i = (s : Side) → rowsOf store i s ≡ nodeOverloops A (Place.Child s) σ (rowsOf store l Side.Left) (rowsOf store r Side.Right)
+-- the class that a word names, and the growth of closing that it tells for a part on a side
+abbrev pub idOf : ℕ → ℕ
+idOf w = w % 1024
+
+abbrev pub growthIn : Side → ℕ → ℕ
+growthIn Side.Left w = w / 1024 % 1024
+growthIn Side.Right w = w / 1048576 % 1024
+
+-- so is a word: it names the class, and has the growth of closing at the tree's root
+abbrev pub TellsWord : Automaton → (store : List ℕ) (w : ℕ) → Tree → Type 0
+TellsWord A store w t = Tells A store (idOf w) t × ((s : Side) → growthIn s w ≡ ownGrowth A (Place.Child s) t)
+
+-- the word w is that of a node with the symbol σ over parts of the classes l and r
+pub record Node (A : Automaton) (store : List ℕ) (σ l r w : ℕ) : Type 0 where
+  pub rows : (s : Side) → rowsOf store (idOf w) s ≡ nodeOverloops A (Place.Child s) σ (rowsOf store l Side.Left) (rowsOf store r Side.Right)
+  pub growth : (s : Side) → growthIn s w ≡ nodeGrowth A (Place.Child s) σ (rowsOf store l Side.Left) (rowsOf store r Side.Right)
 
 -- as parts on a side of a node with the symbol σ, at any place, classes i and j do the same
 abbrev pub Alike : Automaton → (store : List ℕ) (σ : ℕ) → Side → (i j : ℕ) → Type 0

@@ -12,8 +12,8 @@ ghost use Prim.Native.Nat.{ℕ, _+_, _<_, _≤_};
 ghost use lib.ListN.{getD};
 ghost use Rattle.algorithms.specs.Automaton.{Automaton};
 ghost use Rattle.overloops.specs.Tables.{Put};
-ghost use Rattle.class_tables.specs.Classes.{rowsPlace, rowsOf, Node};
-ghost use Rattle.class_tables.specs.Cache.{indexPlace, indexAt, key, wordUnder, idOf, Right, classes, CachedIn};
+ghost use Rattle.class_tables.specs.Classes.{rowsPlace, rowsOf, idOf, growthIn, Node};
+ghost use Rattle.class_tables.specs.Cache.{indexPlace, indexAt, key, wordUnder, Right, classes, CachedIn};
 
 // The classes there are; the indices in use on the left and on the right; the most classes that there may be for now; and two numbers that are
 // the caller's.
@@ -135,7 +135,7 @@ fn place_near(cells: &Cells, at: usize) -> usize
 pub fn keep(maps: &IndexMaps, cells: &mut Cells, symbol: Symbol, left: u32, right: u32, word: u32)
     requires { ⌜ (symbol .0 < 32) × (left < 1024) × (right < 1024) ⌝ }
     ensures { λ _. ⌜ ((A : Automaton) (counts store : List ℕ) → CachedIn A counts store (now (maps .entry)) (now (cells .entry))
-        → left < classes counts → right < classes counts → idOf word < classes counts → Node A store (symbol .0) left right (idOf word)
+        → left < classes counts → right < classes counts → idOf word < classes counts → Node A store (symbol .0) left right word
         → CachedIn A counts store (now (maps .entry)) (now (cells .exit))) ⌝ }
 {
     let l = index_of(maps, symbol, Side::Left, left);
@@ -148,6 +148,21 @@ pub fn keep(maps: &IndexMaps, cells: &mut Cells, symbol: Symbol, left: u32, righ
     }
     let place = place_near(cells, home(l, r));
     cells[place] = key_of(l, r) * 4294967296 + word as u64;
+}
+
+// A word: a class, and the growths of closing as a left and as a right part.
+pub fn word_with(class: u32, left: u32, right: u32) -> u32
+    requires { ⌜ (class < 1024) × (left < 1024) × (right < 1024) ⌝ }
+    ensures { λ r. ⌜ (idOf r ≡ class) × (growthIn Side.Left r ≡ left) × (growthIn Side.Right r ≡ right) ⌝ }
+{
+    class + left * 1024 + right * 1048576
+}
+
+// The growths of closing of two parts, by their words: the first as a left part, the second as a right one.
+pub fn growth_of(first: u64, second: u64) -> u32
+    ensures { λ r. ⌜ (r ≡ growthIn Side.Left first + growthIn Side.Right second) × (r < 2048) ⌝ }
+{
+    (first / 1024 % 1024) as u32 + (second / 1048576 % 1024) as u32
 }
 
 // The relation of a class on a side.

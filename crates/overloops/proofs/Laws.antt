@@ -14,8 +14,10 @@ use Rattle.model.specs.declared.Place.{Place}
 use Rattle.model.specs.declared.Move.{Move}
 use Rattle.relation.specs.Rows.{noPairs, joined, composed, closed, meeting}
 use Rattle.algorithms.specs.Automaton.{Automaton, Proper, ranked, alphabetOf}
+use Rattle.relation.specs.Growth.{growthOf}
+use Rattle.algorithms.specs.Growth.{leafGrowth, nodeGrowth}
 use Rattle.algorithms.specs.Overloops.{acceptedBy, moves, nodeSimple, nodeLoops, upClosure, leafOverloops, nodeOverloops}
-use Rattle.algorithms.proofs.OverloopLaws.{row-moves, leaf-as-node, within-leafOverloops}
+use Rattle.algorithms.proofs.OverloopLaws.{row-moves, leaf-as-node, leaf-grows-as-node, within-leafOverloops}
 use Rattle.blocks.specs.Blocks.{content}
 use Rattle.automaton.specs.File.{WithinLimits, parsed}
 use Rattle.automaton.specs.declared.Header.{Header}
@@ -56,6 +58,11 @@ module _ (A : Automaton) (τ : Place) (σ : ℕ) (L R : List ℕ) where
       → down-right ≡ moves A σ τ (Move.Down Side.Right) → all ≡ joined here (composed down-right R) → all ≡ nodeSimple A τ σ L R
   simple-formed s dl h dr a = rw (a, h, s, dl, dr)
 
+  pub growth-formed : (n : ℕ) {all : List ℕ} {growth : ℕ} → A .states ≡ n → all ≡ nodeSimple A τ σ L R → growth ≡ growthOf n all
+      → growth ≡ nodeGrowth A τ σ L R
+  unfolding nodeGrowth
+  growth-formed n e a g = rw (g, a, e)
+
   pub loops-formed : (n : ℕ) {all closure : List ℕ} → A .states ≡ n → all ≡ nodeSimple A τ σ L R → closure ≡ closed n all
       → closure ≡ nodeLoops A τ σ L R
   unfolding nodeLoops
@@ -71,6 +78,10 @@ pub leaf-formed : (A : Automaton) → Proper A → (τ : Place) (σ : ℕ) {L R 
     → rows ≡ leafOverloops A τ σ
 unfolding nodeOverloops leafOverloops
 leaf-formed A P τ σ l r e = rw (e, l, r, leaf-as-node A P τ σ)
+
+pub leaf-grown : (A : Automaton) → Proper A → (τ : Place) (σ : ℕ) {L R : List ℕ} {growth : ℕ} → L ≡ noPairs → R ≡ noPairs → growth ≡ nodeGrowth A τ σ L R
+    → growth ≡ leafGrowth A τ σ
+leaf-grown A P τ σ l r e = rw (e, l, r, leaf-grows-as-node A P τ σ)
 
 -- acceptance by the loops at the root
 pub accepted-by : (A : Automaton) (initial final : ℕ) (rows loops : List ℕ) (b : Bool) → A .initial ≡ initial → A .accepting ≡ final → rows ≡ loops

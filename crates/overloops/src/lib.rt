@@ -5,6 +5,7 @@ use model::Place;
 use model::Side;
 use model::State;
 use model::Symbol;
+use relation::Closed;
 use relation::Relation;
 use transitions::TransitionTable;
 ghost use mathlib.Core.Path.{_≡_};
@@ -12,6 +13,7 @@ ghost use Prim.Native.Nat.{_+_, _<_, _≤_};
 ghost use lib.ListN.{length, take, drop, replicate};
 ghost use Rattle.algorithms.specs.Automaton.{Automaton, Proper};
 ghost use Rattle.algorithms.specs.Overloops as spec;
+ghost use Rattle.algorithms.specs.Growth.{leafGrowth, nodeGrowth};
 ghost use Rattle.transitions.specs.Compiled.{Compiled};
 ghost use Rattle.automaton.specs.File.{parsed};
 ghost use Rattle.overloops.specs.Tables.{Tabled, sideNumber, leafCell, Leaves, Put};
@@ -70,7 +72,7 @@ fn simple_in(
         )
 }
 
-// The loops of a node at a place: that table, closed.
+// The loops of a node at a place: that table, closed; and how many pairs that added.
 fn loops_in(
     table: &TransitionTable,
     states: usize,
@@ -78,15 +80,44 @@ fn loops_in(
     place: Place,
     left: &[u32; 24],
     right: &[u32; 24],
-) -> Relation
+) -> Closed
     requires { ⌜ (states ≤ 24) × (symbol .0 < 32) ⌝ }
     ensures { λ r. ⌜ ((A : Automaton) → Tabled A states (now (table .entry))
-        → r .rows ≡ spec.nodeLoops A place (symbol .0) (now (left .entry)) (now (right .entry))) ⌝ }
+        → (r .relation .rows ≡ spec.nodeLoops A place (symbol .0) (now (left .entry)) (now (right .entry)))
+        × (r .growth ≡ nodeGrowth A place (symbol .0) (now (left .entry)) (now (right .entry)))) × (r .growth ≤ 768) ⌝ }
 {
     simple_in(table, symbol, place, left, right).close(states)
 }
 
-// The overloops of a node as a part of its parent, from the rows of its own parts'.
+// A node as a part of its parent: its overloops, and the growth of closing there.
+pub struct Part {
+    pub overloops: Relation,
+    pub growth: u32,
+}
+
+// The same from the rows of its own parts' overloops.
+pub fn part_in(
+    table: &TransitionTable,
+    states: usize,
+    symbol: Symbol,
+    side: Side,
+    left: &[u32; 24],
+    right: &[u32; 24],
+) -> Part
+    requires { ⌜ (states ≤ 24) × (symbol .0 < 32) ⌝ }
+    ensures { λ r. ⌜ ((A : Automaton) → Tabled A states (now (table .entry))
+        → (r .overloops .rows ≡ spec.nodeOverloops A (Place.Child side) (symbol .0) (now (left .entry)) (now (right .entry)))
+        × (r .growth ≡ nodeGrowth A (Place.Child side) (symbol .0) (now (left .entry)) (now (right .entry)))) × (r .growth ≤ 768) ⌝ }
+{
+    let place = Place::Child(side);
+    let loops = loops_in(table, states, symbol, place, left, right);
+    Part {
+        overloops: loops.relation.follow(moves_in(table, symbol, place, Move::Up)),
+        growth: loops.growth,
+    }
+}
+
+// Its overloops alone.
 pub fn overloops_in(
     table: &TransitionTable,
     states: usize,
@@ -99,16 +130,28 @@ pub fn overloops_in(
     ensures { λ r. ⌜ ((A : Automaton) → Tabled A states (now (table .entry))
         → r .rows ≡ spec.nodeOverloops A (Place.Child side) (symbol .0) (now (left .entry)) (now (right .entry))) ⌝ }
 {
-    let place = Place::Child(side);
-    loops_in(table, states, symbol, place, left, right).follow(moves_in(
-        table,
-        symbol,
-        place,
-        Move::Up,
-    ))
+    let part = part_in(table, states, symbol, side, left, right);
+    part.overloops
 }
 
-// The loops of a node at a place, from the overloops of its parts.
+// The loops of a node at a place, from the overloops of its parts, and the growth of closing there.
+pub fn close_node(
+    table: &TransitionTable,
+    states: usize,
+    symbol: Symbol,
+    place: Place,
+    left: Relation,
+    right: Relation,
+) -> Closed
+    requires { ⌜ (states ≤ 24) × (symbol .0 < 32) ⌝ }
+    ensures { λ r. ⌜ ((A : Automaton) → Tabled A states (now (table .entry))
+        → (r .relation .rows ≡ spec.nodeLoops A place (symbol .0) (left .rows) (right .rows))
+        × (r .growth ≡ nodeGrowth A place (symbol .0) (left .rows) (right .rows))) × (r .growth ≤ 768) ⌝ }
+{
+    loops_in(table, states, symbol, place, &left.rows, &right.rows)
+}
+
+// The loops alone.
 pub fn node_loops(
     table: &TransitionTable,
     states: usize,
@@ -121,7 +164,8 @@ pub fn node_loops(
     ensures { λ r. ⌜ ((A : Automaton) → Tabled A states (now (table .entry))
         → r .rows ≡ spec.nodeLoops A place (symbol .0) (left .rows) (right .rows)) ⌝ }
 {
-    loops_in(table, states, symbol, place, &left.rows, &right.rows)
+    let closed = close_node(table, states, symbol, place, left, right);
+    closed.relation
 }
 
 // The overloops of a node as a part of its parent, from those of its own parts.
@@ -140,12 +184,13 @@ pub fn node_overloops(
     overloops_in(table, states, symbol, side, &left.rows, &right.rows)
 }
 
-// The loops of a leaf at a place: a node whose parts have no overloops.
-pub fn leaf_loops(table: &TransitionTable, states: usize, symbol: Symbol, place: Place) -> Relation
+// The loops of a leaf at a place, and the growth of closing there: a node whose parts have no overloops.
+pub fn close_leaf(table: &TransitionTable, states: usize, symbol: Symbol, place: Place) -> Closed
     requires { ⌜ (states ≤ 24) × (symbol .0 < 32) ⌝ }
-    ensures { λ r. ⌜ ((A : Automaton) → Tabled A states (now (table .entry)) → r .rows ≡ spec.leafLoops A place (symbol .0)) ⌝ }
+    ensures { λ r. ⌜ ((A : Automaton) → Tabled A states (now (table .entry))
+        → (r .relation .rows ≡ spec.leafLoops A place (symbol .0)) × (r .growth ≡ leafGrowth A place (symbol .0))) × (r .growth ≤ 768) ⌝ }
 {
-    node_loops(
+    close_node(
         table,
         states,
         symbol,
@@ -153,6 +198,26 @@ pub fn leaf_loops(table: &TransitionTable, states: usize, symbol: Symbol, place:
         Relation::empty(),
         Relation::empty(),
     )
+}
+
+// The loops alone.
+pub fn leaf_loops(table: &TransitionTable, states: usize, symbol: Symbol, place: Place) -> Relation
+    requires { ⌜ (states ≤ 24) × (symbol .0 < 32) ⌝ }
+    ensures { λ r. ⌜ ((A : Automaton) → Tabled A states (now (table .entry)) → r .rows ≡ spec.leafLoops A place (symbol .0)) ⌝ }
+{
+    let closed = close_leaf(table, states, symbol, place);
+    closed.relation
+}
+
+// A leaf as a part of its parent.
+pub fn leaf_part(table: &TransitionTable, states: usize, symbol: Symbol, side: Side) -> Part
+    requires { ⌜ (states ≤ 24) × (symbol .0 < 32) ⌝ }
+    ensures { λ r. ⌜ ((A : Automaton) → Tabled A states (now (table .entry))
+        → (r .overloops .rows ≡ spec.leafOverloops A (Place.Child side) (symbol .0)) × (r .growth ≡ leafGrowth A (Place.Child side) (symbol .0)))
+        × (r .growth ≤ 768) ⌝ }
+{
+    let none = Relation::empty();
+    part_in(table, states, symbol, side, &none.rows, &none.rows)
 }
 
 // A side as the number that stands for it.
@@ -196,13 +261,12 @@ fn put_leaf(table: &TransitionTable, states: usize, symbol: Symbol, side: Side, 
     ensures { λ _. ⌜ ((A : Automaton) → Tabled A states (now (table .entry))
         → Put (leafCell (symbol .0) side) (spec.leafOverloops A (Place.Child side) (symbol .0)) (now (leaves .entry)) (now (leaves .exit))) ⌝ }
 {
-    let none = Relation::empty();
-    let rows = node_overloops(table, states, symbol, side, none, none);
-    put_rows(leaves, leaf_cell(symbol, side), rows);
+    let part = leaf_part(table, states, symbol, side);
+    put_rows(leaves, leaf_cell(symbol, side), part.overloops);
 }
 
 // Fills the table of leaves.
-pub fn fill_leaves(table: &TransitionTable, states: usize, leaves: &mut [u32])
+fn fill_leaves(table: &TransitionTable, states: usize, leaves: &mut [u32])
     requires { ⌜ (states ≤ 24) × (length (now leaves) ≡ 1536) ⌝ }
     ensures { λ _. ⌜ ((A : Automaton) → Tabled A states (now (table .entry)) → Leaves A (now (leaves .exit))) ⌝ }
 {

@@ -1,15 +1,8 @@
--- `overloops::overloops_in` meets its contract: the loops, each followed by each transition up.
+-- `overloops::overloops_in` meets its contract.
 -- Assumes nothing.
 use borrow.Author.Needs.{needs}
-use Rattle.overloops.proofs.Laws.{overloops-formed}
 use Rattle.overloops.proofs.overloops_in.Statement.{statement}
 use Rattle.overloops.proofs.overloops_in.Tie as tie
 
 pub overloops-in-spec : {M : Type 1} → statement M
-overloops-in-spec =
-    tie.close
-    (tie.spec
-    (λ c κs. search needs)
-    (λ c κs. search needs)
-    (λ c κs. search needs)
-    (λ c. λ A k. overloops-formed A _ _ _ _ (c .before .before .before .loops-in .ensures A k) (c .before .moves-in .ensures .1 A (k .compiled)) (c .follow .ensures)))
+overloops-in-spec = tie.close (tie.spec (λ c κs. search needs) (λ c. λ A k. c .before .part-in .ensures .0 A k .0))
