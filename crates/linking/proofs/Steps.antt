@@ -22,7 +22,7 @@ use Rattle.passes.specs.Stacked.{One}
 use Rattle.passes.specs.declared.Stack.{Stack}
 use Rattle.passes.proofs.Laws as passes
 use Rattle.passes.proofs.Laws.{Becomes}
-use Rattle.linking.specs.Placed.{LinkedFrom, Placed, Loaded}
+use Rattle.linking.specs.Placed.{LinkedFrom, Placed, uncounted, Loaded}
 use Rattle.linking.proofs.Placing.{linked-kept, linked-leaf, linked-node}
 
 -- tables that change before the last k nodes only
@@ -72,6 +72,7 @@ branch-on sg n σ at right v h P R table s table′ st st′ k few e is small br
     let l = p .l in
     let r = p .r in
     let rest = p .rest in
+    let none : p .total-rest ≡ 0 = omega (arith, p .total-is) in
     let size-s = two-long l r s rest (p .list) in
     let size-r = length-append (preorder r) rest in
     let size-is = size-preorder r in
@@ -90,7 +91,8 @@ branch-on sg n σ at right v h P R table s table′ st st′ k few e is small br
       parents-long = omega (arith, length-set (set P (at + 1) at) right at);
       rights-long = omega (arith, length-set R at right);
       stacked =
-          passes.branch-on (Placed n P R) (Placed n (set (set P (at + 1) at) right at) (set R at right)) sg σ v h table s table′ st st′ t
+          rw none at
+          (passes.branch-on (Placed n P R) (Placed n (set (set P (at + 1) at) right at) (set R at right)) sg σ v h table s table′ st st′ t
           (k .stacked .below)
           (placed-kept n (length rest) P R (set (set P (at + 1) at) right at) (set R at right)
           (λ i b. getD-set-other (set P (at + 1) at) right i at 0 (λ f. omega arith) ∙ getD-set-other P (at + 1) i at 0 (λ f. omega arith))
@@ -106,21 +108,21 @@ branch-on sg n σ at right v h P R table s table′ st st′ k few e is small br
                 (getD-set-same R at right 0 (omega arith) ∙ right-is)
                 (λ i b. getD-set-other R at i right 0 (λ g. omega arith)));
           })
-          small branch (word .0) over low held;
+          small branch (word .0) over low held);
     }
 
 -- the pass begins with nothing on the stack
 pub begun : (sg : Signature) (P R table s : List ℕ) → length table ≡ 128 → length s ≤ length P → length s ≤ length R
     → Loaded sg (length s) P R table (drop (length s) s) (record { top = 128; first = 0; second = 0 })
 begun sg P R table s size-is p r =
-    record { parents-long = p; rights-long = r; stacked = passes.begun (Placed (length s) P R) sg table s size-is }
+    record { parents-long = p; rights-long = r; stacked = passes.begun (Placed (length s) P R) uncounted sg table s size-is }
 
 -- one tree is left, the whole list; the root has no parent
 pub ended : (sg : Signature) (P R table s : List ℕ) (st : Stack) → Loaded sg (length s) P R table s st → length s ≤ 4096 → st .top ≡ 127
     → (t : Tree) × Writes sg s t × Tables t s (set P 0 0) R
 ended sg P R table s st k few e = (t, one .writes, tables)
   where
-    one : One (Placed (length s) P R) sg s (st .first)
+    one : One (Placed (length s) P R) uncounted sg s (st .first) 0
     one = passes.one-ended st (k .stacked) e
 
     t : Tree

@@ -1,5 +1,5 @@
 -- What the pass that links a node list of n nodes knows of the trees read so far: where each stands, and the links inside it.
--- Interface: `LinkedFrom`, `Placed`, `Loaded`, `Stepped`.
+-- Interface: `LinkedFrom`, `Placed`, `uncounted`, `Loaded`, `Stepped`.
 use Prim.Native.Nat.{ℕ, _+_, _<_, _≤_}
 use mathlib.Core.Path.{_≡_}
 use mathlib.Core.List.{List}
@@ -22,11 +22,15 @@ pub record Placed (n : ℕ) (parents rights : List ℕ) (s : List ℕ) (w : ℕ)
   pub stands : lowOf w + size t + length s ≡ n
   pub linked : LinkedFrom parents rights (lowOf w) t
 
+-- the pass needs no number of a tree
+abbrev pub uncounted : Tree → ℕ
+uncounted t = 0
+
 -- the stack and the tables tell of the trees that the list s writes
 pub record Loaded (sg : Signature) (n : ℕ) (parents rights table s : List ℕ) (st : Stack) : Type 0 where
   pub parents-long : n ≤ length parents
   pub rights-long : n ≤ length rights
-  pub stacked : Stacked (Placed n parents rights) sg table s st
+  pub stacked : Stacked (Placed n parents rights) uncounted sg table s st 0
 
 -- after a step: they tell of the longer list; or the pass is off
 abbrev pub Stepped : Signature → (n : ℕ) (parents rights table s : List ℕ) → Step → Type 0
