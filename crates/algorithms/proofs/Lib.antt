@@ -4,6 +4,7 @@ pub mod Alphabets
 pub mod OverloopLaws
 pub mod Recognized
 pub mod Growth
+pub mod Grown
 pub mod FormedSets
 pub mod LeastSets
 pub mod Theorems

@@ -56,7 +56,12 @@ bit-less : (x y q : ℕ) → bit (bitOr x y - y) q + bit y q ≡ max (bit x q) (
 bit-less x y zero = omega (arith, less-low x y, bit-low (bitOr x y - y), bit-low x, bit-low y)
 bit-less x y (suc q) =
     omega (
-      arith, bit-less (x / 2) (y / 2) q, ap (λ (z : ℕ). bit z q) (less-half x y), bit-half (bitOr x y - y) q, bit-half x q, bit-half y q
+      arith,
+      bit-less (x / 2) (y / 2) q,
+      ap (λ (z : ℕ). bit z q) (less-half x y),
+      bit-half (bitOr x y - y) q,
+      bit-half x q,
+      bit-half y q,
     )
 
 less-has : (x y q : ℕ) → (bit (bitOr x y - y) q ≡ 1) ↔ ((bit x q ≡ 1) × (¬ (bit y q ≡ 1)))
