@@ -13,8 +13,8 @@ use lib.ListN.{length, getD, set, length-set}
 use lib.Seq.{getD-set-same, getD-set-other}
 use Rattle.model.specs.declared.Side.{Side}
 use Rattle.algorithms.specs.Automaton.{Automaton}
-use Rattle.class_tables.specs.Classes.{Node}
-use Rattle.class_tables.specs.Cache.{indexAt, key, keyIn, wordIn, wordUnder, idOf, Right, classes, indices, CachedIn}
+use Rattle.class_tables.specs.Classes.{idOf, Node}
+use Rattle.class_tables.specs.Cache.{indexAt, key, keyIn, wordIn, wordUnder, Right, classes, indices, CachedIn}
 use Rattle.class_tables.proofs.Laws.{node-alike}
 
 -- ---- the word of a cell
@@ -53,7 +53,7 @@ stored l at v x h (no n) = inr (getD-set-other l at x v 0 n)
 
 module _ (A : Automaton) (counts store maps cells : List ℕ) (k : CachedIn A counts store maps cells) (n σ l r w : ℕ) (within : n < 16384) (s : σ < 32)
     (hl : l < classes counts) (hr : r < classes counts) (some-left : 0 < indexAt maps Side.Left σ l) (some-right : 0 < indexAt maps Side.Right σ r)
-    (small : w < 4294967296) (known : idOf w < classes counts) (node : Node A store σ l r (idOf w)) where
+    (small : w < 4294967296) (known : idOf w < classes counts) (node : Node A store σ l r w) where
   abbrev here : ℕ
   here = key (indexAt maps Side.Left σ l) (indexAt maps Side.Right σ r)
 
@@ -105,7 +105,7 @@ module _ (A : Automaton) (counts store maps cells : List ℕ) (k : CachedIn A co
           let same-left : indexAt maps Side.Left σ l ≡ indexAt maps Side.Left σ′ l′ = omega (arith, is, same-right) in
           let left = k .alike Side.Left σ σ′ l l′ s s′ hl hl′ some-left same-left in
           let right = k .alike Side.Right σ σ′ r r′ s s′ hr hr′ some-right same-right in
-          rw (word, ← left .0) (λ some. (known, node-alike A store σ l l′ r r′ (idOf w) (left .1) (right .1) node))
+          rw (word, ← left .0) (λ some. (known, node-alike A store σ l l′ r r′ w (left .1) (right .1) node))
       by (inr p) = rw p (k .right m σ′ l′ r′ s′ hl′ hr′ (sym (ap keyIn p) ∙ e))
 
   pub word-more : CachedIn A counts store maps cells′

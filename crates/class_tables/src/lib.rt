@@ -1,5 +1,6 @@
-// The lent tables of lazy determinization: the classes of trees, numbered as they are met, their indices at each symbol on each side, words that
-// name the classes of nodes, under the keys of two indices, and hints at classes. A class is a tree's overloops as a left and as a right part.
+// The lent tables of lazy determinization: the classes of trees, numbered as they are met, their indices at each symbol on each side, words of
+// nodes, under the keys of two indices, and hints at classes. A class is a tree's overloops as a left and as a right part. A word names a class
+// and has two growths of closing, as a left and as a right part.
 use model::Side;
 use model::Symbol;
 use overloops::put_rows;
@@ -26,7 +27,7 @@ pub type Store = [u32; 49152];
 // of the processor's cache.)
 pub type IndexMaps = [u16; 66560];
 
-// Words under the keys of two indices.
+// Words under the keys of two indices: each has 10 bits of a class, 10 of the growth as a left part and 10 of that as a right part.
 pub type Cells = [u64; 16384];
 
 // Where a class may be found by what depends on its pairs: 2,048 for classes, for left and for right indices. Nothing is known of these: what
