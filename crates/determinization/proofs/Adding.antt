@@ -10,8 +10,8 @@ use lib.Seq.{getD-set-same, getD-set-other}
 use Rattle.model.specs.declared.Side.{Side}
 use Rattle.algorithms.specs.Automaton.{Automaton}
 use Rattle.overloops.specs.Tables.{sideNumber}
-use Rattle.class_tables.specs.Classes.{Node, Alike, Same}
-use Rattle.class_tables.specs.Cache.{indexAt, wordIn, idOf, Right, classes, indices, CachedIn}
+use Rattle.class_tables.specs.Classes.{idOf, Node, Alike, Same}
+use Rattle.class_tables.specs.Cache.{indexAt, wordIn, Right, classes, indices, CachedIn}
 
 -- counts that stay but for what is said
 pub record Counted (counts counts′ : List ℕ) (n : ℕ) : Type 0 where
@@ -32,8 +32,11 @@ module _ (A : Automaton) (counts counts′ store store′ maps cells : List ℕ)
   same-alike : (σ i j : ℕ) (s : Side) → i < classes counts → j < classes counts → Alike A store σ s i j → Alike A store′ σ s i j
   same-alike σ i j s hi hj h τ = rw (same i s hi, same j s hj) (h τ)
 
-  same-node : (σ l r i : ℕ) → l < classes counts → r < classes counts → i < classes counts → Node A store σ l r i → Node A store′ σ l r i
-  same-node σ l r i hl hr hi h s = rw (same i s hi, same l Side.Left hl, same r Side.Right hr) (h s)
+  same-node : (σ l r w : ℕ) → l < classes counts → r < classes counts → idOf w < classes counts → Node A store σ l r w → Node A store′ σ l r w
+  same-node σ l r w hl hr hw h = record {
+    rows = λ s. rw (same (idOf w) s hw, same l Side.Left hl, same r Side.Right hr) (h .rows s);
+    growth = λ s. rw (same l Side.Left hl, same r Side.Right hr) (h .growth s);
+  }
 
   pub class-more : CachedIn A counts′ store′ maps cells
   class-more =
@@ -61,7 +64,7 @@ module _ (A : Automaton) (counts counts′ store store′ maps cells : List ℕ)
             let ol = older Side.Left σ l b (omega arith) (used .0) in
             let or = older Side.Right σ r b (omega arith) (used .2) in
             let h = k .right m σ l r b ol or e some in
-            (omega (arith, h .0), same-node σ l r (idOf (wordIn (getD cells m 0))) ol or (h .0) (h .1));
+            (omega (arith, h .0), same-node σ l r (wordIn (getD cells m 0)) ol or (h .0) (h .1));
       }
 
 pub class-counted : (counts : List ℕ) → length counts ≡ 6 → Counted counts (set counts 0 (classes counts + 1)) (classes counts + 1)

@@ -10,10 +10,11 @@ use Rattle.model.specs.declared.Side.{Side}
 use Rattle.model.specs.declared.Place.{Place}
 use Rattle.algorithms.specs.Automaton.{Automaton}
 use Rattle.algorithms.specs.Overloops.{nodeOverloops}
+use Rattle.algorithms.specs.Growth.{nodeGrowth}
 use Rattle.overloops.specs.Tables.{Put}
 use Rattle.overloops.proofs.Laws.{side-small, part-length, part-at, part-is}
-use Rattle.class_tables.specs.Classes.{rowsPlace, rowsOf, Node, Same, IsClass}
-use Rattle.class_tables.specs.Cache.{idOf, Right, classes, CachedIn, After}
+use Rattle.class_tables.specs.Classes.{rowsPlace, rowsOf, idOf, growthIn, Node, Same, IsClass}
+use Rattle.class_tables.specs.Cache.{Right, classes, CachedIn, After}
 use Rattle.determinization.proofs.Adding.{class-more, class-counted}
 
 -- both relations of class n, one after the other
@@ -66,25 +67,44 @@ class-added A counts store store₁ store₂ maps cells left right k room hl hr 
       },
     )
 
--- the class of a node, from its two relations
-node-is : (A : Automaton) (σ l r i : ℕ) (store store′ x y : List ℕ) → rowsOf store′ i Side.Left ≡ x → rowsOf store′ i Side.Right ≡ y
-    → rowsOf store′ l Side.Left ≡ rowsOf store l Side.Left → rowsOf store′ r Side.Right ≡ rowsOf store r Side.Right
-    → x ≡ nodeOverloops A (Place.Child Side.Left) σ (rowsOf store l Side.Left) (rowsOf store r Side.Right)
-    → y ≡ nodeOverloops A (Place.Child Side.Right) σ (rowsOf store l Side.Left) (rowsOf store r Side.Right) → Node A store′ σ l r i
-node-is A σ l r i store store′ x y ex ey el er nx ny Side.Left = rw (el, er) (ex ∙ nx)
-node-is A σ l r i store store′ x y ex ey el er nx ny Side.Right = rw (el, er) (ey ∙ ny)
+-- a node as a part on a side: its relation, and its growth
+abbrev PartOf : Automaton → Side → (σ : ℕ) (left right rows : List ℕ) (growth : ℕ) → Type 0
+PartOf A s σ left right rows growth =
+    (rows ≡ nodeOverloops A (Place.Child s) σ left right) × (growth ≡ nodeGrowth A (Place.Child s) σ left right)
 
-pub node-computed : (A : Automaton) (σ l r i : ℕ) (counts counts′ store store′ maps cells cells′ x y : List ℕ) → l < classes counts → r < classes counts
-    → After A counts store counts′ store′ maps cells → IsClass (classes counts′) store′ i x y → i < 1024
-    → x ≡ nodeOverloops A (Place.Child Side.Left) σ (rowsOf store l Side.Left) (rowsOf store r Side.Right)
-    → y ≡ nodeOverloops A (Place.Child Side.Right) σ (rowsOf store l Side.Left) (rowsOf store r Side.Right)
-    → (CachedIn A counts′ store′ maps cells → l < classes counts′ → r < classes counts′ → idOf i < classes counts′ → Node A store′ σ l r (idOf i)
+pub part-over : (A : Automaton) (s : Side) (σ : ℕ) {left left′ right right′ rows : List ℕ} {growth : ℕ} → left ≡ left′ → right ≡ right′
+    → PartOf A s σ left right rows growth → PartOf A s σ left′ right′ rows growth
+part-over A s σ l r part = rw (l, r) at part
+
+-- a word that has a class and two growths
+abbrev Has : (w i left right : ℕ) → Type 0
+Has w i left right = (idOf w ≡ i) × (growthIn Side.Left w ≡ left) × (growthIn Side.Right w ≡ right)
+
+-- the word of a node, from its parts
+node-is : (A : Automaton) (σ l r i w g h : ℕ) (store store′ x y : List ℕ) → rowsOf store′ i Side.Left ≡ x → rowsOf store′ i Side.Right ≡ y
+    → rowsOf store′ l Side.Left ≡ rowsOf store l Side.Left → rowsOf store′ r Side.Right ≡ rowsOf store r Side.Right → Has w i g h
+    → PartOf A Side.Left σ (rowsOf store l Side.Left) (rowsOf store r Side.Right) x g
+    → PartOf A Side.Right σ (rowsOf store l Side.Left) (rowsOf store r Side.Right) y h → Node A store′ σ l r w
+node-is A σ l r i w g h store store′ x y ex ey el er has px py = record { rows = rows-are; growth = growth-is }
+  where
+    rows-are : (s : Side) → rowsOf store′ (idOf w) s ≡ nodeOverloops A (Place.Child s) σ (rowsOf store′ l Side.Left) (rowsOf store′ r Side.Right)
+    rows-are Side.Left = rw (has .0, el, er) (ex ∙ px .0)
+    rows-are Side.Right = rw (has .0, el, er) (ey ∙ py .0)
+
+    growth-is : (s : Side) → growthIn s w ≡ nodeGrowth A (Place.Child s) σ (rowsOf store′ l Side.Left) (rowsOf store′ r Side.Right)
+    growth-is Side.Left = rw (el, er) (has .1 ∙ px .1)
+    growth-is Side.Right = rw (el, er) (has .2 ∙ py .1)
+
+pub node-computed : (A : Automaton) (σ l r i w g h : ℕ) (counts counts′ store store′ maps cells cells′ x y : List ℕ) → l < classes counts
+    → r < classes counts → After A counts store counts′ store′ maps cells → IsClass (classes counts′) store′ i x y → Has w i g h
+    → PartOf A Side.Left σ (rowsOf store l Side.Left) (rowsOf store r Side.Right) x g
+    → PartOf A Side.Right σ (rowsOf store l Side.Left) (rowsOf store r Side.Right) y h
+    → (CachedIn A counts′ store′ maps cells → l < classes counts′ → r < classes counts′ → idOf w < classes counts′ → Node A store′ σ l r w
     → CachedIn A counts′ store′ maps cells′)
-    → After A counts store counts′ store′ maps cells′ × Right A (classes counts′) store′ σ l r i
-node-computed A σ l r i counts counts′ store store′ maps cells cells′ x y hl hr after is small nx ny keep =
+    → After A counts store counts′ store′ maps cells′ × Right A (classes counts′) store′ σ l r w
+node-computed A σ l r i w g h counts counts′ store store′ maps cells cells′ x y hl hr after is has px py keep =
     let more = after .more in
-    let id : idOf i ≡ i = omega arith in
-    let known : idOf i < classes counts′ = omega (arith, is .known) in
-    let node : Node A store′ σ l r (idOf i) =
-    rw id (node-is A σ l r i store store′ x y (is .left-rows) (is .right-rows) (after .same l Side.Left hl) (after .same r Side.Right hr) nx ny) in
+    let known : idOf w < classes counts′ = omega (arith, is .known, has .0) in
+    let node : Node A store′ σ l r w =
+    node-is A σ l r i w g h store store′ x y (is .left-rows) (is .right-rows) (after .same l Side.Left hl) (after .same r Side.Right hr) has px py in
     (record { cached = keep (after .cached) (omega arith) (omega arith) known node; same = after .same; more = more }, λ some. (known, node))

@@ -1,4 +1,5 @@
-// Lazy determinization: the class of a node over parts of two classes, looked up under the indices of its parts, or computed and kept.
+// Lazy determinization: the class of a node over parts of two classes, and its growths of closing, looked up under the indices of its parts, or
+// computed and kept.
 use class_tables::Cells;
 use class_tables::Counts;
 use class_tables::Hints;
@@ -13,10 +14,12 @@ use class_tables::mixed;
 use class_tables::put_side;
 use class_tables::word_around;
 use class_tables::word_of;
+use class_tables::word_with;
 use indexing::map_class;
 use model::Side;
 use model::Symbol;
-use overloops::node_overloops;
+use overloops::Part;
+use overloops::part_in;
 use relation::Relation;
 use transitions::TransitionTable;
 ghost use mathlib.Core.Path.{_≡_};
@@ -26,6 +29,7 @@ ghost use Prim.Native.Nat.{ℕ, _+_, _<_, _≤_};
 ghost use Rattle.model.specs.declared.Place.{Place};
 ghost use Rattle.algorithms.specs.Automaton.{Automaton};
 ghost use Rattle.algorithms.specs.Overloops.{nodeOverloops};
+ghost use Rattle.algorithms.specs.Growth.{nodeGrowth};
 ghost use Rattle.overloops.specs.Tables.{Tabled};
 ghost use Rattle.class_tables.specs.Classes.{rowsOf, IsClass};
 ghost use Rattle.class_tables.specs.Cache.{Right, classes, CachedIn, After};
@@ -100,8 +104,8 @@ fn class_for(
     count
 }
 
-// The relation of a node on a side, over parts of two classes.
-fn node_rows(
+// A node as a part on a side, over parts of two classes: its overloops, and the growth of closing there.
+fn node_part(
     table: &TransitionTable,
     states: usize,
     symbol: Symbol,
@@ -109,19 +113,16 @@ fn node_rows(
     store: &Store,
     left: u32,
     right: u32,
-) -> Relation
+) -> Part
     requires { ⌜ (states ≤ 24) × (symbol .0 < 32) × (left < 1024) × (right < 1024) ⌝ }
     ensures { λ r. ⌜ ((A : Automaton) → Tabled A states (now (table .entry))
-        → r .rows ≡ nodeOverloops A (Place.Child side) (symbol .0) (rowsOf (now (store .entry)) left Side.Left) (rowsOf (now (store .entry)) right Side.Right)) ⌝ }
+        → (r .overloops .rows ≡ nodeOverloops A (Place.Child side) (symbol .0) (rowsOf (now (store .entry)) left Side.Left) (rowsOf (now (store .entry)) right Side.Right))
+        × (r .growth ≡ nodeGrowth A (Place.Child side) (symbol .0) (rowsOf (now (store .entry)) left Side.Left) (rowsOf (now (store .entry)) right Side.Right)))
+        × (r .growth < 1024) ⌝ }
 {
-    node_overloops(
-        table,
-        states,
-        symbol,
-        side,
-        class_rows(store, left, Side::Left),
-        class_rows(store, right, Side::Right),
-    )
+    let l = class_rows(store, left, Side::Left);
+    let r = class_rows(store, right, Side::Right);
+    part_in(table, states, symbol, side, &l.rows, &r.rows)
 }
 
 // The word of a node over parts of two classes, computed, and kept if there is room. 0 where there is no room for its class.
@@ -144,14 +145,15 @@ fn new_word(
         → After A (now (counts .entry)) (now (store .entry)) (now (counts .exit)) (now (store .exit)) (now (maps .entry)) (now (cells .exit))
         × Right A (classes (now (counts .exit))) (now (store .exit)) (symbol .0) left right r) ⌝ }
 {
-    let l = node_rows(table, states, symbol, Side::Left, store, left, right);
-    let r = node_rows(table, states, symbol, Side::Right, store, left, right);
-    let class = class_for(counts, store, hints, l, r);
+    let l = node_part(table, states, symbol, Side::Left, store, left, right);
+    let r = node_part(table, states, symbol, Side::Right, store, left, right);
+    let class = class_for(counts, store, hints, l.overloops, r.overloops);
     if 1023 < class {
         return 0;
     }
-    keep(maps, cells, symbol, left, right, class);
-    class
+    let word = word_with(class, l.growth, r.growth);
+    keep(maps, cells, symbol, left, right, word);
+    word
 }
 
 // The word of a node over parts of two classes, where it does not stand in the first cell: found near it, or computed.
@@ -203,7 +205,7 @@ fn computed(
     )
 }
 
-// The word of a node over parts of two classes, which names its class; 0 where there is no room for it.
+// The word of a node over parts of two classes, which names its class and tells its growths; 0 where there is no room for it.
 pub fn node_word(
     table: &TransitionTable,
     states: usize,
