@@ -117,23 +117,6 @@ pub fn part_in(
     }
 }
 
-// Its overloops alone.
-pub fn overloops_in(
-    table: &TransitionTable,
-    states: usize,
-    symbol: Symbol,
-    side: Side,
-    left: &[u32; 24],
-    right: &[u32; 24],
-) -> Relation
-    requires { ⌜ (states ≤ 24) × (symbol .0 < 32) ⌝ }
-    ensures { λ r. ⌜ ((A : Automaton) → Tabled A states (now (table .entry))
-        → r .rows ≡ spec.nodeOverloops A (Place.Child side) (symbol .0) (now (left .entry)) (now (right .entry))) ⌝ }
-{
-    let part = part_in(table, states, symbol, side, left, right);
-    part.overloops
-}
-
 // The loops of a node at a place, from the overloops of its parts, and the growth of closing there.
 pub fn close_node(
     table: &TransitionTable,
@@ -181,7 +164,8 @@ pub fn node_overloops(
     ensures { λ r. ⌜ ((A : Automaton) → Tabled A states (now (table .entry))
         → r .rows ≡ spec.nodeOverloops A (Place.Child side) (symbol .0) (left .rows) (right .rows)) ⌝ }
 {
-    overloops_in(table, states, symbol, side, &left.rows, &right.rows)
+    let part = part_in(table, states, symbol, side, &left.rows, &right.rows);
+    part.overloops
 }
 
 // The loops of a leaf at a place, and the growth of closing there: a node whose parts have no overloops.
@@ -230,7 +214,7 @@ pub fn side_number(side: Side) -> usize
     }
 }
 
-fn leaf_cell(symbol: Symbol, side: Side) -> usize
+pub fn leaf_cell(symbol: Symbol, side: Side) -> usize
     requires { ⌜ symbol .0 < 32 ⌝ }
     ensures { λ r. ⌜ (r ≡ leafCell (symbol .0) side) × (r + 24 ≤ 1536) ⌝ }
 {

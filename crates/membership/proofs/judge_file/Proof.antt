@@ -1,15 +1,16 @@
 -- `membership::judge_file` meets its contract: the nodes that are lent on are those of the file, whose tree stands at the first.
 -- Assumes nothing.
 use borrow.Author.Needs.{needs}
-use Prim.Native.Nat.{ℕ}
+use Prim.Native.Nat.{ℕ, _<_}
 use mathlib.Core.Path.{_≡_, sym, ap, _∙_}
-use mathlib.Core.Bool.{true, false}
 use mathlib.Core.List.{List}
 use native.Mathlib.Omega.{arith}
-use lib.ListN.{length, take, length-take}
+use lib.ListN.{length, getD, take, length-take}
+use Rattle.model.specs.declared.Place.{Place}
 use Rattle.model.specs.declared.Signature.{Signature}
 use Rattle.algorithms.specs.Automaton.{Automaton}
 use Rattle.algorithms.specs.Overloops.{accepts?}
+use Rattle.algorithms.specs.Growth.{growths}
 use Rattle.blocks.specs.Blocks.{content}
 use Rattle.automaton.specs.declared.Header.{Header}
 use Rattle.tree.specs.File.{nodesOf, readTree}
@@ -17,8 +18,8 @@ use Rattle.nodes.specs.Nodes.{treeOf}
 use Rattle.tree.proofs.Reading.{TreeRead, tree-read}
 use Rattle.tree.specs.declared.file.ParsedTree.{ParsedTree}
 use Rattle.overloops.specs.Ready.{Headed}
-use Rattle.membership.proofs.Laws.{front-is, judged-refused, judged-nodes}
-use Rattle.nodes.proofs.Signatures.{written-below}
+use Rattle.membership.proofs.Laws.{front-is, judged-refused, judged-nodes, growth-refused, growth-nodes}
+use Rattle.nodes.proofs.Signatures.{shaped-over, below-at, written-below}
 use Rattle.membership.proofs.judge_file.Statement.{statement}
 use Rattle.membership.proofs.judge_file.Tie as tie
 
@@ -46,12 +47,19 @@ module _ (c : tie.After-known-told2) where
   nodes-are : take k (c .before .before .before .read-tree .last .1 .1 .0) ≡ nodesOf k (content s)
   nodes-are = front-is signature s k _ _ _ (c .before .k .given .1) (c .before .before .before .read-tree .ensures .1) read
 
--- the answer is the automaton's
-answer-is : (c : tie.After-accepts) (A : Automaton) → Headed A (h (c .before .before)) (c .before .before .before .before .before .before .before .before .args .table .now) →
-    c .accepts .result ≡ accepts? A (treeOf (h (c .before .before) .branches) (nodesOf (k (c .before .before)) (content (s (c .before .before)))))
-answer-is c A r =
+  -- each of its symbols is one of the signature's
+  symbols-below : (i : ℕ) → i < length (nodesOf k (content s)) → getD (nodesOf k (content s)) i 0 < h .symbols
+  symbols-below = below-at (h .symbols) (nodesOf k (content s)) (rw (read .tree .text) (shaped-over signature _ (read .tree .over) .1))
+
+-- acceptance and sum are the automaton's
+weighed-is : (c : tie.After-weigh) (A : Automaton) → Headed A (h (c .before .before)) (c .before .before .before .before .before .before .before .before .args .table .now) →
     let told = c .before .before in
-    c .accepts .ensures A r (treeOf (h told .branches) (nodesOf (k told) (content (s told)))) (rw (nodes-are told) (read told .stands))
+    let t = treeOf (h told .branches) (nodesOf (k told) (content (s told))) in
+    (c .weigh .result .accepted ≡ accepts? A t) × (c .weigh .result .growth ≡ growths A Place.Root t)
+weighed-is c A r =
+    let told = c .before .before in
+    c .weigh .ensures A r (rw (nodes-are told) (symbols-below told)) (treeOf (h told .branches) (nodesOf (k told) (content (s told))))
+    (rw (nodes-are told) (read told .stands))
 
 pub judge-file-spec : {M : Type 1} → statement M
 judge-file-spec =
@@ -65,7 +73,12 @@ judge-file-spec =
     (λ c κs.
     let limits = c .before .before .before .before .before .before .before .pre in
     let r = read (c .before) in
-    rw (nodes-are (c .before)) (omega (arith, r .size, r .some), limits .0, written-below _ _ _ (limits .1) (r .tree)))
-    (λ c. λ A r. judged-refused A _ _ r _ _ (sym (c .before .before .before .read-tree .ensures .0) ∙ c .before .refusal .given .1))
-    (λ c. λ A r. judged-nodes A _ _ r _ _ true (read-is (c .before .before .before)) (sym (c .if1 .taken) ∙ answer-is (c .before) A r))
-    (λ c. λ A r. judged-nodes A _ _ r _ _ false (read-is (c .before .before .before)) (sym (c .if1 .left) ∙ answer-is (c .before) A r)))
+    rw (nodes-are (c .before)) (omega (arith, r .size, r .some), omega (arith, r .size, r .most), limits, written-below _ _ _ (limits .1) (r .tree)))
+    (λ c κs. search needs)
+    (λ c. λ A r.
+    let refused = sym (c .before .before .before .read-tree .ensures .0) ∙ c .before .refusal .given .1 in
+    (judged-refused A _ _ r _ _ refused, growth-refused A _ _ r _ _ refused))
+    (λ c. λ A r.
+    let is = weighed-is (c .before) A r in
+    let told = c .before .before .before in
+    (c .answer-of .ensures ∙ judged-nodes A _ _ r _ _ _ (read-is told) (is .0), growth-nodes A _ _ r _ _ _ (read-is told) (is .1))))
