@@ -1,5 +1,10 @@
-// The pass over a node list from its end, a look-up a node: the classes of the trees that it writes, and whether the tree is accepted. Lines 10 to
-// 12 hold of every list for which it answers.
+// The pass over a node list from its end, a look-up a node: the classes of the trees that it writes, whether the tree is accepted, and the sum of
+// the growths of closing at its nodes. Lines 10 to 12 hold of every list for which it answers.
+mod steps;
+
+use crate::steps::Step;
+use crate::steps::id;
+use crate::steps::node_step;
 use algorithms::is_branch;
 use automaton::Header;
 use class_tables::Cells;
@@ -8,241 +13,49 @@ use class_tables::Hints;
 use class_tables::IndexMaps;
 use class_tables::Store;
 use class_tables::class_rows;
-use determinization::leaf_word;
-use determinization::node_word;
+use class_tables::growth_of;
 use model::Place;
 use model::Side;
 use model::Symbol;
 use nodes::reader::Here;
 use nodes::reader::read_at;
-use overloops::leaf_loops;
-use overloops::node_loops;
+use overloops::close_leaf;
+use overloops::close_node;
 use passes::Stack;
 use passes::Verdict;
 use passes::height_over;
-use passes::merge;
-use passes::packed;
-use passes::push;
-use passes::verdict_of;
 use relation::Relation;
 use transitions::TransitionTable;
 ghost use mathlib.Core.Path.{_≡_};
-ghost use mathlib.Core.Bool.{true, false};
 ghost use mathlib.Core.List.{List, _∷_};
-ghost use Prim.Native.Nat.{ℕ, _<_, _≤_};
+ghost use Prim.Native.Nat.{ℕ, _+_, _<_, _≤_};
 ghost use lib.ListN.{length, getD};
-ghost use Rattle.relation.specs.Sets.{member};
 ghost use Rattle.model.specs.Trees.{Tree, leaf, node};
 ghost use Rattle.algorithms.specs.Automaton.{Automaton};
 ghost use Rattle.algorithms.specs.Overloops.{overloops, accepts?};
+ghost use Rattle.algorithms.specs.Growth.{growths};
 ghost use Rattle.model.specs.declared.Signature.{Signature};
 ghost use Rattle.automaton.specs.File.{signatureIn};
 ghost use Rattle.overloops.specs.Tables.{Tabled};
 ghost use Rattle.overloops.specs.Ready.{Headed};
-ghost use Rattle.class_tables.specs.Cache.{idOf, Right, classes, CachedIn, After};
-ghost use Rattle.passes.specs.Verdicts.{Tells};
-ghost use Rattle.bottom_up.specs.Told.{PassedRight};
-ghost use Rattle.bottom_up.specs.Steps.{Leafed, Loaded, Stepped};
+ghost use Rattle.nodes.specs.Preorder.{Writes};
+ghost use Rattle.class_tables.specs.Cache.{classes, CachedIn};
+ghost use Rattle.bottom_up.specs.Told.{belowGrowths, PassedRight, PassedFew, Weighs};
+ghost use Rattle.bottom_up.specs.Steps.{Loaded};
 
-// What the pass found: the classes of the root's parts; that the root is a leaf, and all; or nothing.
+// What the pass found: the classes of the root's parts, and the sum of the growths below the root; that the root is a leaf, and all; or nothing.
 enum Passed {
-    Parts(u32, u32),
+    Parts(u32, u32, u32),
     Leaf,
     Off,
 }
 
-// The class that a word of the stack names.
-fn id(word: u64) -> u32
-    ensures { λ r. ⌜ (r ≡ idOf word) × (r < 1024) ⌝ }
-{
-    (word % 1024) as u32
-}
-
-// What a step of the pass gives: the stack after the node; or that the pass is off.
-enum Step {
-    On(Stack),
-    Off,
-}
-
-// The words of the leaves that this pass met, by symbol; 0 for one that it did not.
-type LeafWords = [u32; 32];
-
-// The word of a leaf: the one that was met, or from the cache.
-fn leaf_met(
-    table: &TransitionTable,
-    states: usize,
-    symbol: Symbol,
-    leaves: &mut LeafWords,
-    counts: &mut Counts,
-    store: &mut Store,
-    maps: &mut IndexMaps,
-    cells: &mut Cells,
-    hints: &mut Hints,
-) -> u32
-    requires { ⌜ (states ≤ 24) × (symbol .0 < 32) ⌝ }
-    ensures { λ r. ⌜ ((A : Automaton) → Tabled A states (now (table .entry))
-        → CachedIn A (now (counts .entry)) (now (store .entry)) (now (maps .entry)) (now (cells .entry))
-        → Leafed A (classes (now (counts .entry))) (now (store .entry)) (now (leaves .entry))
-        → After A (now (counts .entry)) (now (store .entry)) (now (counts .exit)) (now (store .exit)) (now (maps .exit)) (now (cells .exit))
-        × Leafed A (classes (now (counts .exit))) (now (store .exit)) (now (leaves .exit))
-        × Right A (classes (now (counts .exit))) (now (store .exit)) (symbol .0) 0 0 r) ⌝ }
-{
-    let at = symbol.0 as usize;
-    let met = leaves[at];
-    if met != 0 {
-        return met;
-    }
-    let word = leaf_word(table, states, symbol, counts, store, maps, cells, hints);
-    leaves[at] = word;
-    word
-}
-
-// A leaf.
-fn leaf_step(
-    table: &TransitionTable,
-    states: usize,
-    symbol: Symbol,
-    stack: Stack,
-    words: &mut [u64; 128],
-    leaves: &mut LeafWords,
-    counts: &mut Counts,
-    store: &mut Store,
-    maps: &mut IndexMaps,
-    cells: &mut Cells,
-    hints: &mut Hints,
-) -> Step
-    requires { ⌜ (states ≤ 24) × (symbol .0 < 32) ⌝ }
-    ensures { λ r. ⌜ ((A : Automaton) (sg : Signature) (s : List ℕ) → Tabled A states (now (table .entry)) → symbol .0 < sg .symbols
-        → member (sg .branches) (symbol .0) ≡ false
-        → Loaded A sg (now (counts .entry)) (now (store .entry)) (now (maps .entry)) (now (cells .entry)) (now (leaves .entry)) (now (words .entry)) s stack
-        → Stepped A sg (now (counts .exit)) (now (store .exit)) (now (maps .exit)) (now (cells .exit)) (now (leaves .exit)) (now (words .exit)) (symbol .0 ∷ s) r) ⌝ }
-{
-    if stack.top == 0 {
-        return Step::Off;
-    }
-    if 128 < stack.top {
-        return Step::Off;
-    }
-    let word = leaf_met(
-        table,
-        states,
-        symbol,
-        leaves,
-        counts,
-        store,
-        maps,
-        cells,
-        hints,
-    );
-    if word == 0 {
-        return Step::Off;
-    }
-    Step::On(push(words, stack, packed(0, word)))
-}
-
-// A branch over the two trees on top.
-fn branch_step(
-    table: &TransitionTable,
-    states: usize,
-    symbol: Symbol,
-    stack: Stack,
-    words: &mut [u64; 128],
-    counts: &mut Counts,
-    store: &mut Store,
-    maps: &mut IndexMaps,
-    cells: &mut Cells,
-    hints: &mut Hints,
-) -> Step
-    requires { ⌜ (states ≤ 24) × (symbol .0 < 32) ⌝ }
-    ensures { λ r. ⌜ ((A : Automaton) (sg : Signature) (leaves s : List ℕ) → Tabled A states (now (table .entry)) → symbol .0 < sg .symbols
-        → member (sg .branches) (symbol .0) ≡ true
-        → Loaded A sg (now (counts .entry)) (now (store .entry)) (now (maps .entry)) (now (cells .entry)) leaves (now (words .entry)) s stack
-        → Stepped A sg (now (counts .exit)) (now (store .exit)) (now (maps .exit)) (now (cells .exit)) leaves (now (words .exit)) (symbol .0 ∷ s) r) ⌝ }
-{
-    if 126 < stack.top {
-        return Step::Off;
-    }
-    let first = stack.first;
-    let second = stack.second;
-    let height = height_over(first, second);
-    if 64 < height {
-        return Step::Off;
-    }
-    let word = node_word(
-        table,
-        states,
-        symbol,
-        id(first),
-        id(second),
-        counts,
-        store,
-        maps,
-        cells,
-        hints,
-    );
-    if word == 0 {
-        return Step::Off;
-    }
-    Step::On(merge(words, stack, packed(height, word)))
-}
-
-// A node: off where its symbol is none of the signature's.
-fn node_step(
-    header: Header,
-    table: &TransitionTable,
-    symbol: Symbol,
-    stack: Stack,
-    words: &mut [u64; 128],
-    leaves: &mut LeafWords,
-    counts: &mut Counts,
-    store: &mut Store,
-    maps: &mut IndexMaps,
-    cells: &mut Cells,
-    hints: &mut Hints,
-) -> Step
-    requires { ⌜ (header .states ≤ 24) × (header .symbols ≤ 32) ⌝ }
-    ensures { λ r. ⌜ ((A : Automaton) (s : List ℕ) → Tabled A (header .states) (now (table .entry))
-        → Loaded A (signatureIn header) (now (counts .entry)) (now (store .entry)) (now (maps .entry)) (now (cells .entry)) (now (leaves .entry)) (now (words .entry)) s stack
-        → Stepped A (signatureIn header) (now (counts .exit)) (now (store .exit)) (now (maps .exit)) (now (cells .exit)) (now (leaves .exit)) (now (words .exit)) (symbol .0 ∷ s) r) ⌝ }
-{
-    if header.symbols <= symbol.0 {
-        return Step::Off;
-    }
-    let states = header.states as usize;
-    if is_branch(header.branches, symbol) {
-        branch_step(
-            table,
-            states,
-            symbol,
-            stack,
-            words,
-            counts,
-            store,
-            maps,
-            cells,
-            hints,
-        )
-    } else {
-        leaf_step(
-            table,
-            states,
-            symbol,
-            stack,
-            words,
-            leaves,
-            counts,
-            store,
-            maps,
-            cells,
-            hints,
-        )
-    }
-}
-
-// The end of the pass, at the root.
-fn ended(header: Header, symbol: Symbol, stack: Stack) -> Passed
-    ensures { λ r. ⌜ ((A : Automaton) (counts store maps cells leaves words s : List ℕ) → Loaded A (signatureIn header) counts store maps cells leaves words s stack
-        → PassedRight A (signatureIn header) (classes counts) store (symbol .0 ∷ s) r) ⌝ }
+// The end of the pass, at the root: the growths at the roots of its parts are added.
+fn ended(header: Header, symbol: Symbol, stack: Stack, growth: u32) -> Passed
+    requires { ⌜ growth ≤ 8388608 ⌝ }
+    ensures { λ r. ⌜ ((A : Automaton) (counts store maps cells leaves words s : List ℕ)
+        → Loaded A (signatureIn header) counts store maps cells leaves words s stack growth
+        → PassedRight A (signatureIn header) (classes counts) store (symbol .0 ∷ s) r) × PassedFew (growth + 2047) r ⌝ }
 {
     if header.symbols <= symbol.0 {
         return Passed::Off;
@@ -257,7 +70,7 @@ fn ended(header: Header, symbol: Symbol, stack: Stack) -> Passed
         if 64 < height_over(first, second) {
             return Passed::Off;
         }
-        return Passed::Parts(id(first), id(second));
+        return Passed::Parts(id(first), id(second), growth + growth_of(first, second));
     }
     if top != 128 {
         return Passed::Off;
@@ -276,11 +89,11 @@ fn pass(
     cells: &mut Cells,
     hints: &mut Hints,
 ) -> Passed
-    requires { ⌜ (0 < length (now symbols)) × (header .states ≤ 24) × (header .symbols ≤ 32) ⌝ }
+    requires { ⌜ (0 < length (now symbols)) × (length (now symbols) ≤ 4096) × (header .states ≤ 24) × (header .symbols ≤ 32) ⌝ }
     ensures { λ r. ⌜ ((A : Automaton) → Tabled A (header .states) (now (table .entry))
         → CachedIn A (now (counts .entry)) (now (store .entry)) (now (maps .entry)) (now (cells .entry))
         → CachedIn A (now (counts .exit)) (now (store .exit)) (now (maps .exit)) (now (cells .exit))
-        × PassedRight A (signatureIn header) (classes (now (counts .exit))) (now (store .exit)) (now (symbols .entry)) r) ⌝ }
+        × PassedRight A (signatureIn header) (classes (now (counts .exit))) (now (store .exit)) (now (symbols .entry)) r) × PassedFew 8388608 r ⌝ }
 {
     let mut words = [0u64; 128];
     let mut leaves = [0u32; 32];
@@ -289,6 +102,7 @@ fn pass(
         first: 0,
         second: 0,
     };
+    let mut growth = 0u32;
     let mut at = symbols.len();
     while 1 < at {
         at -= 1;
@@ -300,6 +114,7 @@ fn pass(
             table,
             symbol,
             stack,
+            growth,
             &mut words,
             &mut leaves,
             counts,
@@ -308,83 +123,122 @@ fn pass(
             cells,
             hints,
         ) {
-            Step::On(next) => stack = next,
+            Step::On(next, sum) => {
+                stack = next;
+                growth = sum;
+            }
             Step::Off => return Passed::Off,
         }
     }
-    ended(header, Symbol(symbols[0]), stack)
+    ended(header, Symbol(symbols[0]), stack, growth)
 }
 
-// Whether a branch is accepted, from the overloops of its parts.
-fn node_accepted(
+// Whether a tree is accepted, with the sum of the growths of closing at its nodes; the sum is 0 where it is not known.
+pub struct Weighed {
+    pub verdict: Verdict,
+    pub growth: u32,
+}
+
+fn unknown() -> Weighed
+    ensures { λ r. ⌜ ((A : Automaton) (sg : Signature) (s : List ℕ) → Weighs A sg s (r .verdict) (r .growth)) ⌝ }
+{
+    Weighed {
+        verdict: Verdict::Unknown,
+        growth: 0,
+    }
+}
+
+fn verdict_with(accepted: bool, growth: u32) -> Weighed
+    ensures { λ r. ⌜ ((A : Automaton) (sg : Signature) (s : List ℕ) (t : Tree) → Writes sg s t → accepted ≡ accepts? A t → growth ≡ growths A Place.Root t
+        → Weighs A sg s (r .verdict) (r .growth)) ⌝ }
+{
+    let verdict = if accepted {
+        Verdict::Accepted
+    } else {
+        Verdict::Other
+    };
+    Weighed { verdict, growth }
+}
+
+// A branch, from the overloops of its parts and the sum below it.
+fn node_weighed(
     header: Header,
     table: &TransitionTable,
     symbol: Symbol,
     left: Relation,
     right: Relation,
-) -> bool
-    requires { ⌜ (header .states ≤ 24) × (symbol .0 < 32) ⌝ }
-    ensures { λ r. ⌜ ((A : Automaton) → Headed A header (now (table .entry)) → (t u : Tree)
-        → left .rows ≡ overloops A (Place.Child Side.Left) t → right .rows ≡ overloops A (Place.Child Side.Right) u → r ≡ accepts? A (node (symbol .0) t u)) ⌝ }
+    growth: u32,
+) -> Weighed
+    requires { ⌜ (header .states ≤ 24) × (symbol .0 < 32) × (growth ≤ 8388608) ⌝ }
+    ensures { λ r. ⌜ ((A : Automaton) (sg : Signature) (s : List ℕ) → Headed A header (now (table .entry)) → (t u : Tree)
+        → left .rows ≡ overloops A (Place.Child Side.Left) t → right .rows ≡ overloops A (Place.Child Side.Right) u → Writes sg s (node (symbol .0) t u)
+        → growth ≡ belowGrowths A (node (symbol .0) t u) → Weighs A sg s (r .verdict) (r .growth)) ⌝ }
 {
-    node_loops(
+    let closed = close_node(
         table,
         header.states as usize,
         symbol,
         Place::Root,
         left,
         right,
-    ).meets(header.initial, header.accepting)
-}
-
-// Whether a leaf is accepted.
-fn leaf_accepted(header: Header, table: &TransitionTable, symbol: Symbol) -> bool
-    requires { ⌜ (header .states ≤ 24) × (symbol .0 < 32) ⌝ }
-    ensures { λ r. ⌜ ((A : Automaton) → Headed A header (now (table .entry)) → r ≡ accepts? A (leaf (symbol .0))) ⌝ }
-{
-    leaf_loops(table, header.states as usize, symbol, Place::Root).meets(
-        header.initial,
-        header.accepting,
+    );
+    verdict_with(
+        closed.relation.meets(header.initial, header.accepting),
+        growth + closed.growth,
     )
 }
 
-// The verdict at the root, from what the pass found.
+// A leaf.
+fn leaf_weighed(header: Header, table: &TransitionTable, symbol: Symbol) -> Weighed
+    requires { ⌜ (header .states ≤ 24) × (symbol .0 < 32) ⌝ }
+    ensures { λ r. ⌜ ((A : Automaton) (sg : Signature) (s : List ℕ) → Headed A header (now (table .entry)) → Writes sg s (leaf (symbol .0))
+        → Weighs A sg s (r .verdict) (r .growth)) ⌝ }
+{
+    let closed = close_leaf(table, header.states as usize, symbol, Place::Root);
+    verdict_with(
+        closed.relation.meets(header.initial, header.accepting),
+        closed.growth,
+    )
+}
+
+// The verdict at the root, and the sum over the tree, from what the pass found.
 fn concluded(
     symbol: Symbol,
     header: Header,
     table: &TransitionTable,
     store: &Store,
     passed: Passed,
-) -> Verdict
-    requires { ⌜ header .states ≤ 24 ⌝ }
+) -> Weighed
+    requires { ⌜ (header .states ≤ 24) × PassedFew 8388608 passed ⌝ }
     ensures { λ r. ⌜ ((A : Automaton) (count : ℕ) (s : List ℕ) → Headed A header (now (table .entry)) → symbol .0 ≡ getD s 0 0
-        → PassedRight A (signatureIn header) count (now (store .entry)) s passed → Tells A (signatureIn header) s r) ⌝ }
+        → PassedRight A (signatureIn header) count (now (store .entry)) s passed → Weighs A (signatureIn header) s (r .verdict) (r .growth)) ⌝ }
 {
     if 31 < symbol.0 {
-        return Verdict::Unknown;
+        return unknown();
     }
     match passed {
-        Passed::Parts(left, right) => {
+        Passed::Parts(left, right, growth) => {
             if 1023 < left {
-                return Verdict::Unknown;
+                return unknown();
             }
             if 1023 < right {
-                return Verdict::Unknown;
+                return unknown();
             }
-            verdict_of(node_accepted(
+            node_weighed(
                 header,
                 table,
                 symbol,
                 class_rows(store, left, Side::Left),
                 class_rows(store, right, Side::Right),
-            ))
+                growth,
+            )
         }
-        Passed::Leaf => verdict_of(leaf_accepted(header, table, symbol)),
-        Passed::Off => Verdict::Unknown,
+        Passed::Leaf => leaf_weighed(header, table, symbol),
+        Passed::Off => unknown(),
     }
 }
 
-// Whether the tree that a node list writes is accepted, by a cache.
+// Whether the tree that a node list writes is accepted, and the sum of the growths of closing at its nodes, by a cache.
 pub fn judge_nodes(
     symbols: &[u8],
     header: Header,
@@ -394,12 +248,12 @@ pub fn judge_nodes(
     maps: &mut IndexMaps,
     cells: &mut Cells,
     hints: &mut Hints,
-) -> Verdict
-    requires { ⌜ (0 < length (now symbols)) × (header .states ≤ 24) × (header .symbols ≤ 32) ⌝ }
+) -> Weighed
+    requires { ⌜ (0 < length (now symbols)) × (length (now symbols) ≤ 4096) × (header .states ≤ 24) × (header .symbols ≤ 32) ⌝ }
     ensures { λ r. ⌜ ((A : Automaton) → Headed A header (now (table .entry))
         → CachedIn A (now (counts .entry)) (now (store .entry)) (now (maps .entry)) (now (cells .entry))
         → CachedIn A (now (counts .exit)) (now (store .exit)) (now (maps .exit)) (now (cells .exit))
-        × Tells A (signatureIn header) (now (symbols .entry)) r) ⌝ }
+        × Weighs A (signatureIn header) (now (symbols .entry)) (r .verdict) (r .growth)) ⌝ }
 {
     let symbol = Symbol(symbols[0]);
     let passed = pass(symbols, header, table, counts, store, maps, cells, hints);

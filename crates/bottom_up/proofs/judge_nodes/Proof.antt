@@ -12,10 +12,10 @@ pass-requires : tie.Need-pass-requires
 pass-requires c κs = search needs
 
 concluded-requires : tie.Need-concluded-requires
-concluded-requires c κs = search needs
+concluded-requires c κs = (search needs, c .before .pass .ensures .1)
 
 returns : tie.Need-returns
-returns c = λ A k h. let p = c .before .before .pass .ensures A (k .tabled) h in (p .0, c .concluded .ensures A _ _ k refl (p .1))
+returns c = λ A k h. let p = c .before .before .pass .ensures .0 A (k .tabled) h in (p .0, c .concluded .ensures A _ _ k refl (p .1))
 
 pub judge-nodes-spec : {M : Type 1} → statement M
 judge-nodes-spec =

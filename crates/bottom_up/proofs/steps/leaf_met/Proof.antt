@@ -1,9 +1,9 @@
--- `bottom_up::leaf_met` meets its contract.
+-- `bottom_up::steps::leaf_met` meets its contract.
 -- Assumes nothing.
 use Rattle.bottom_up.proofs.Loading.{leaves-stay, leaf-met-more, as-before}
 use borrow.Author.Needs.{needs}
-use Rattle.bottom_up.proofs.leaf_met.Statement.{statement}
-use Rattle.bottom_up.proofs.leaf_met.Tie as tie
+use Rattle.bottom_up.proofs.steps.leaf_met.Statement.{statement}
+use Rattle.bottom_up.proofs.steps.leaf_met.Tie as tie
 
 cast-at : tie.Need-cast-at
 cast-at c = search needs
