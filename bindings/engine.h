@@ -5,12 +5,13 @@
  * encodings in crates/numbering/specs/Numbers.antt.
  *
  * Pointers. A pointer with a length points at so many bytes, or more; it is never null, also where the length is 0. A pointer to numbers
- * is aligned as its type is. What a function writes to (told, answers, out, log, counts, tally, text, a survey's plan) overlaps nothing else that it
- * was given; what it only reads may overlap. Nothing is kept after the call.
+ * is aligned as its type is. What a function writes to (told, growth, answers, growths, out, log, counts, tally, text, a survey's plan) overlaps
+ * nothing else that it was given; what it only reads may overlap. Nothing is kept after the call.
  *
  * What is written. `told` is always written, all three numbers: what the answer tells, or, of a refusal, its number (1 to 14 of document
  * 01's table, 15 to 23 of document 02), the file (0 automaton, 1 tree, 2 neither), and the place that the table names; what an answer does
- * not tell is 0. `answers`, `plan`, `out`, `log`, `counts`, `tally` and `text` are changed only as said below, and no other memory is.
+ * not tell is 0. `growth` is always written too: one number. `answers`, `growths`, `plan`, `out`, `log`, `counts`, `tally` and `text` are changed
+ * only as said below, and no other memory is.
  *
  * Threads. Calls share nothing: there is no state between them, no allocation, no lock, no file and no signal. Any number of threads may
  * call at one time, each with memory of its own to be written to.
@@ -24,6 +25,7 @@
 #include <stdint.h>
 
 #define ENGINE_JUDGE_STACK (120 * 1024)
+#define ENGINE_ACCEPTS_STACK (120 * 1024)
 #define ENGINE_JUDGE_ALL_STACK (720 * 1024)
 #define ENGINE_SURVEY_STACK (64 * 1024)
 #define ENGINE_WITNESS_STACK (20 * 1024)
@@ -42,18 +44,28 @@
 extern "C" {
 #endif
 
-/* Whether an automaton accepts a tree.
+/* Whether an automaton accepts a tree, and how many pairs of states closing adds. At each node, at its own place in the tree, the given table
+ * has the pairs (p, q) of a rule that stays, from p to q, and those of a rule down from p to p' and a crossing (p', q) of that part: a run that
+ * enters the part in p' and leaves it in q. The closed table has these, (p, p) for every state, and (p, q) wherever a chain of given pairs leads
+ * from p to q. `growth` is how many pairs the closed table has that the given one lacked, added up over all nodes: at most 576 x nodes.
+ * 0 accepted, 1 other (judged, not accepted), 2 refused (number, file, place), with growth 0. */
+uint32_t engine_judge(const uint8_t *automaton, size_t automaton_length, const uint8_t *tree, size_t tree_length, size_t growth[1],
+                      size_t told[3]);
+
+/* Whether an automaton accepts a tree: what engine_judge answers and tells, without the growth. It is faster, a search over configurations.
  * 0 accepted, 1 other (judged, not accepted), 2 refused (number, file, place). */
-uint32_t engine_judge(const uint8_t *automaton, size_t automaton_length, const uint8_t *tree, size_t tree_length, size_t told[3]);
+uint32_t engine_accepts(const uint8_t *automaton, size_t automaton_length, const uint8_t *tree, size_t tree_length, size_t told[3]);
 
 /* Judges trees' files end to end: a file's first block gives its length; refusals 1 to 4, and trees that stop inside a file, are the last answer.
  * Each file has three numbers in `answers`, in the order of the files: 0 accepted, 1 other, 2 refused; of a refusal its number and its place, else
  * 0 and 0. Each is what engine_judge answers of that file alone (the file of a refusal is 1). As many files are judged as there is room for, three
- * numbers each; 3 x (trees_length / 512 + 1) numbers have room for all. Later numbers stay. What is found out about subtrees is kept from file to
- * file while the call lasts, in memory on its stack, so that a call with many files is faster than many calls.
- * 0 judged (the files), 1 the automaton's file is refused (number, file, place), and the answers stay as they were. */
+ * numbers each; 3 x (trees_length / 512 + 1) numbers have room for all. Each file that is judged has one number in `growths`, its growth, or 0 for
+ * a refusal, as far as there is room; where `growths_length` is 0 no growth is found, and the call is faster. Later numbers of both stay. What is
+ * found out about subtrees is kept from file to file while the call lasts, in memory on its stack, so that a call with many files is faster than
+ * many calls.
+ * 0 judged (the files), 1 the automaton's file is refused (number, file, place), and the answers and growths stay as they were. */
 uint32_t engine_judge_all(const uint8_t *automaton, size_t automaton_length, const uint8_t *trees, size_t trees_length, size_t *answers,
-                          size_t answers_length, size_t told[3]);
+                          size_t answers_length, size_t *growths, size_t growths_length, size_t told[3]);
 
 /* Looks for a tree that an automaton accepts. Where one is found, the plan that builds it goes to the front of the buffer, three bytes a
  * row: symbol, left row, right row, or 255 255 for a leaf; the last row is the tree. Later bytes, and the whole buffer on other answers,
@@ -118,8 +130,8 @@ uint32_t engine_watch(const uint8_t *automaton, size_t automaton_length, const u
 uint32_t engine_compare(const uint8_t *automaton, size_t automaton_length, const uint8_t *tree, size_t tree_length, const uint8_t *first,
                         size_t first_length, const uint8_t *second, size_t second_length, size_t counts[3], size_t told[3]);
 
-/* Counts one outcome more on a tally of three numbers: accepted, other, refused. The outcome is what engine_judge answered: 0 accepted,
- * 1 other, any other number refused. A tally whose numbers add to 1,000,000 or more stays as it was.
+/* Counts one outcome more on a tally of three numbers: accepted, other, refused. The outcome is what engine_judge or engine_accepts
+ * answered: 0 accepted, 1 other, any other number refused. A tally whose numbers add to 1,000,000 or more stays as it was.
  * 0 counted, 1 refused (14, 2, 0). */
 uint32_t engine_count(uint32_t tally[3], uint32_t outcome, size_t told[3]);
 

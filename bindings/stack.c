@@ -155,7 +155,7 @@ static struct {
     size_t walker_length, letter_length, round_length, log_length;
 } input;
 
-static size_t told[3], counts[3];
+static size_t told[3], counts[3], growth[1];
 static uint32_t tally[3], answer;
 
 static void make_log(void)
@@ -186,13 +186,25 @@ static void make_input(int number)
 
 static void call_judge(void)
 {
-    answer = engine_judge(input.walker, input.walker_length, input.letter, input.letter_length, told);
+    answer = engine_judge(input.walker, input.walker_length, input.letter, input.letter_length, growth, told);
 }
 
-static void call_judge_all(void)
+static void call_accepts(void)
+{
+    answer = engine_accepts(input.walker, input.walker_length, input.letter, input.letter_length, told);
+}
+
+static uint32_t judge_all(size_t growths_length)
 {
     static size_t answers[3];
-    answer = engine_judge_all(input.walker, input.walker_length, input.letter, input.letter_length, answers, 3, told);
+    return engine_judge_all(input.walker, input.walker_length, input.letter, input.letter_length, answers, 3, growth, growths_length, told);
+}
+
+/* Without the growth, and with it. */
+static void call_judge_all(void)
+{
+    judge_all(0);
+    answer = judge_all(1);
 }
 
 static void call_survey(void)
@@ -314,6 +326,7 @@ static const struct {
     size_t limit;
 } functions[] = {
     {"engine_judge", call_judge, ENGINE_JUDGE_STACK},
+    {"engine_accepts", call_accepts, ENGINE_ACCEPTS_STACK},
     {"engine_judge_all", call_judge_all, ENGINE_JUDGE_ALL_STACK},
     {"engine_survey", call_survey, ENGINE_SURVEY_STACK},
     {"engine_witness", call_witness, ENGINE_WITNESS_STACK},
@@ -378,6 +391,24 @@ static size_t refusal_of(int letter)
     return letter == NONE ? 1 : 12;
 }
 
+/* Whether this is the verdict, alone and with the growth, and the growth is right: 0 of a refusal, else from 1 to 576 a node, and of the walker
+ * with place 3, of which 16 states stay, the other 8. Of letters end to end it is the same, and unwritten where there is no walker or no letter. */
+static int judge_right(uint32_t verdict, int walker, int letter)
+{
+    size_t unwritten = growth[0] = 577 * 4096;
+    call_accepts();
+    if (answer != verdict)
+        return 0;
+    call_judge();
+    size_t found = growth[0];
+    size_t least = verdict == 2 ? 0 : walker == SPREAD ? 8 : 1, most = verdict == 2 ? 0 : walker == SPREAD ? 8 : 576;
+    if (answer != verdict || found < least * count || found > most * count)
+        return 0;
+    growth[0] = unwritten;
+    call_judge_all();
+    return answer == (walker == NONE) && growth[0] == (walker == NONE || letter == NONE ? unwritten : found);
+}
+
 /* Whether the last walk is refused with the letter, circles on a comb of 129 nodes, and is spent on a large letter. */
 static int watch_right(int letter)
 {
@@ -395,16 +426,15 @@ static int compare_right(int letter)
     return answer == 0 && counts[0] == 3 * entries && counts[1] == entries && counts[2] == entries;
 }
 
-/* That the inputs are what they should be: refused, not accepted and accepted; nine blocks; a survey that ends with Open 64; two plans that
- * are written; a form of six blocks, and one that 17 refuses; a text that is written; long walks and logs. */
+/* That the inputs are what they should be: refused, not accepted and accepted, with their growths; nine blocks; a survey that ends with Open
+ * 64; two plans that are written; a form of six blocks, and one that 17 refuses; a text that is written; long walks and logs. */
 static int inputs_right(void)
 {
     for (int number = 0; number < INPUTS; number++) {
         make_input(number);
-        call_judge();
         int walker = number / LETTERS, letter = number % LETTERS;
         uint32_t verdict = walker == NONE || letter <= HIGH ? 2 : walker != PASSING;
-        if (answer != verdict || (letter >= LARGE_LEFT && input.letter_length != LETTER))
+        if (!judge_right(verdict, walker, letter) || (letter >= LARGE_LEFT && input.letter_length != LETTER))
             return 0;
         call_survey();
         if (walker == LARGEST && (answer != 1 || told[0] != 64))

@@ -4,6 +4,7 @@ use crate::{
     judges::{self, Judges},
     random::Random,
     shapes::{self, Shape},
+    sums::{self, Summing},
     tree, Verdict,
 };
 
@@ -74,11 +75,20 @@ fn compare_one(seed: u64, counts: &mut Counts) -> Result<(), String> {
         counts.automata_refused += 1;
         return Ok(());
     };
+    let summing = Summing::prepare(&file).map_err(|_| "with the sum the automaton is refused")?;
     let trees: Vec<Vec<u8>> = (0..TREES).map(|_| small_tree_file(&automaton, &mut random)).collect();
     for tree in &trees {
-        counts.add(judges.judge(tree)?);
+        let verdict = judges.judge(tree)?;
+        if summing.judge(tree)?.verdict != verdict {
+            return Err(format!("with the sum the verdict is not {verdict:?}"));
+        }
+        counts.add(verdict);
     }
-    judges::tally(&file, &trees.concat()).map(|_| ())
+    let (tally, sum) = (judges::tally(&file, &trees.concat())?, sums::of_batch(&file, &trees.concat())?);
+    if sum.map(|(tally, _)| tally) != tally {
+        return Err(format!("with the sum the tally is not {tally:?}"));
+    }
+    Ok(())
 }
 
 /// About a third of the items, as a set.

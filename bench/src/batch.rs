@@ -1,18 +1,35 @@
 //! Trees' files end to end (document 01, "Tally and report"; document 02, W3).
-use crate::{blocks, Judge, Refusal, Verdict};
+use crate::{blocks, Judge, JudgeSums, Refusal, Verdict};
 
 /// How many trees were accepted, judged and not accepted, and refused.
 pub type Tally = [u32; 3];
 
 /// The tally of trees' files end to end. The limit of a million is left out: no batch here comes near it.
-pub fn tally(judge: &impl Judge, mut trees: &[u8]) -> Tally {
+pub fn tally(judge: &impl Judge, trees: &[u8]) -> Tally {
+    tally_by(|file| judge.judge(file), trees)
+}
+
+/// The tally, and the sum of the growths of all trees.
+pub fn sums(judge: &impl JudgeSums, trees: &[u8]) -> (Tally, usize) {
+    let mut sum = 0;
+    let judged = |file: &[u8]| {
+        let judged = judge.judge_sums(file);
+        sum += judged.growth;
+        judged.verdict
+    };
+    let tally = tally_by(judged, trees);
+    (tally, sum)
+}
+
+#[inline(always)]
+fn tally_by(mut judge: impl FnMut(&[u8]) -> Verdict, mut trees: &[u8]) -> Tally {
     let mut tally = [0; 3];
     while !trees.is_empty() {
         let Some(file) = first_file(trees) else {
             tally[2] += 1;
             break;
         };
-        let verdict = judge.judge(file);
+        let verdict = judge(file);
         count(&mut tally, verdict);
         if matches!(verdict, Verdict::Refused(Refusal { number: 1..=4, .. })) {
             break;

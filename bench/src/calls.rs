@@ -1,4 +1,4 @@
-//! One call for one small tree: `engine_judge`, beside implementations in Rust that are prepared and used once. A further call that judges is one
+//! One call for one small tree: `engine_accepts`, beside implementations in Rust that are prepared and used once. A further call that judges is one
 //! more place in `CALLS`.
 #[cfg(feature = "engine")]
 use crate::engine;
@@ -18,7 +18,7 @@ use std::{hint::black_box, time::Instant};
 const ROUNDS: usize = 20;
 const CALLS_A_ROUND: usize = 500;
 /// 15 nodes.
-const BRANCHES: usize = 7;
+pub const BRANCHES: usize = 7;
 const FAMILY: &str = "traversal";
 
 /// The verdict of an automaton's file on a tree's file.
@@ -26,7 +26,7 @@ type Call = fn(&[u8], &[u8]) -> Verdict;
 
 const CALLS: &[(&str, Call)] = &[
     #[cfg(feature = "engine")]
-    ("engine", engine::judge),
+    ("engine", engine::accepts),
     ("Rust configurations", |automaton, tree| used_once(Configurations::prepare(automaton), tree)),
     ("Rust tables", |automaton, tree| used_once(Tables::prepare(automaton), tree)),
 ];
@@ -36,15 +36,19 @@ fn used_once(judge: Result<impl Judge, Refusal>, tree: &[u8]) -> Verdict {
 }
 
 /// Goes down the right and accepts where the leaf there is 1, on trees of one branch.
-fn two_rules() -> Automaton {
+pub fn two_rules() -> Automaton {
     let rules = [[2, 0, 3, 3, 0], [1, 0, 2, 1, 1]].map(Rule::from_bytes).into();
     Automaton { states: 2, symbols: 3, initial: 1, accepting: 2, branches: 4, rules }
 }
 
-pub fn run() -> Result<(), String> {
+/// The first automaton of the family.
+pub fn many_rules() -> Result<Automaton, String> {
     let family = Family::named(FAMILY).ok_or("the family is not there")?;
-    let file = family.cases().remove(0).automaton;
-    let large = Automaton::read(&file).map_err(|_| "an automaton was refused")?;
+    Automaton::read(&family.cases().remove(0).automaton).map_err(|_| "an automaton was refused".into())
+}
+
+pub fn run() -> Result<(), String> {
+    let large = many_rules()?;
     println!("\none call, a tree of 15 nodes, microseconds a call, best of {ROUNDS} rounds:");
     print!("{:<14}", "automaton");
     for (name, _) in CALLS {

@@ -1,5 +1,11 @@
 //! The engine, by bindings/rust, in the terms of this crate.
-use crate::{batch::Tally, compare::Compared, survey::Survey, watch::Watched, Judge, Refusal, Verdict};
+use crate::{
+    batch::{self, Tally},
+    compare::Compared,
+    survey::Survey,
+    watch::Watched,
+    Judge, JudgeSums, Judged, Refusal, Verdict,
+};
 
 fn refusal(::engine::Refusal { number, place, .. }: ::engine::Refusal) -> Refusal {
     Refusal { number, place }
@@ -51,13 +57,46 @@ pub fn compare(file: &[u8], tree: &[u8], first: &[u8], second: &[u8]) -> Result<
     Ok(Compared { part: part.len(), first, second })
 }
 
-/// The engine's verdict on one tree's file.
-pub fn judge(automaton: &[u8], tree: &[u8]) -> Verdict {
-    match ::engine::judge(automaton, tree) {
+fn verdict(answer: Result<::engine::Verdict, ::engine::Refusal>) -> Verdict {
+    match answer {
         Ok(::engine::Verdict::Accepted) => Verdict::Accepted,
         Ok(::engine::Verdict::Other) => Verdict::Other,
         Err(refused) => Verdict::Refused(refusal(refused)),
     }
+}
+
+fn judged(answer: Result<::engine::Judged, ::engine::Refusal>) -> Judged {
+    let growth = answer.map_or(0, |judged| judged.growth);
+    Judged { verdict: verdict(answer.map(|judged| judged.verdict)), growth }
+}
+
+/// The engine's verdict on one tree's file.
+pub fn accepts(automaton: &[u8], tree: &[u8]) -> Verdict {
+    verdict(::engine::accepts(automaton, tree))
+}
+
+/// The same with the sum of the growths.
+pub fn judge(automaton: &[u8], tree: &[u8]) -> Judged {
+    judged(::engine::judge(automaton, tree))
+}
+
+/// The engine's verdicts on trees' files end to end, as a tally.
+pub fn accepts_all(automaton: &[u8], trees: &[u8]) -> Result<Tally, Refusal> {
+    let answers = ::engine::accepts_all(automaton, trees).map_err(refusal)?;
+    let mut tally = [0; 3];
+    answers.into_iter().for_each(|answer| batch::count(&mut tally, verdict(answer)));
+    Ok(tally)
+}
+
+/// The same with the sum of the growths of all trees.
+pub fn judge_all(automaton: &[u8], trees: &[u8]) -> Result<(Tally, usize), Refusal> {
+    let answers = ::engine::judge_all(automaton, trees).map_err(refusal)?;
+    let (mut tally, mut sum) = ([0; 3], 0);
+    for Judged { verdict, growth } in answers.into_iter().map(judged) {
+        batch::count(&mut tally, verdict);
+        sum += growth;
+    }
+    Ok((tally, sum))
 }
 
 /// The engine's tally of trees' files end to end.
@@ -80,6 +119,12 @@ impl Engine {
 
 impl Judge for Engine {
     fn judge(&self, file: &[u8]) -> Verdict {
+        accepts(&self.automaton, file)
+    }
+}
+
+impl JudgeSums for Engine {
+    fn judge_sums(&self, file: &[u8]) -> Judged {
         judge(&self.automaton, file)
     }
 }

@@ -1,12 +1,13 @@
 //! Judging by lazy determinization. A subtree's class is its overloops as a left part and as a right part. A part counts for its parent only by
 //! what it does at the parent's symbol on its side, which is a row (left) or a column (right) of the symbol; row and column give the cell that
 //! has the parent's class. All of these are found on first use and kept over the trees of a batch, so that in the end a node is one look-up.
+//! There are two forms: with the sum of the growths of closing (document 02, W9), where a cell has the growths of its node too, and without.
 use crate::{
     blocks::{BLOCK, CONTENT},
     configurations::Configurations,
-    tables::{Done, Table, Tables, LEFT_PART, RIGHT_PART},
+    tables::{Done, Overloops, Table, LEFT_PART, RIGHT_PART, ROOT},
     tree::{self, Alphabet, MOST_HEIGHT},
-    Judge, Refusal, Verdict,
+    Judge, JudgeSums, Judged, Refusal, Verdict,
 };
 use std::{
     cell::RefCell,
@@ -29,6 +30,21 @@ const MOST_WAIT: usize = 64;
 type Word = u32;
 const CLASS: Word = 0xffff;
 const LEVEL: Word = CLASS + 1;
+
+/// The growth of a node as a left part in the lower half, and as a right part in the upper one.
+type Growths = u32;
+
+fn growths_of([left, right]: [usize; 2]) -> Growths {
+    (right << 16 | left) as Growths
+}
+
+fn as_left(growths: Growths) -> usize {
+    (growths & 0xffff) as usize
+}
+
+fn as_right(growths: Growths) -> usize {
+    (growths >> 16) as usize
+}
 
 /// What a cell has as the root of a whole tree.
 const ACCEPTED: u8 = 1;
@@ -53,8 +69,8 @@ impl Hasher for Mixer {
 
 type Numbers<Key> = HashMap<Key, u32, BuildHasherDefault<Mixer>>;
 
-/// What was found so far; 0 is "not known yet" everywhere.
-struct Cache {
+/// What was found so far; 0 is "not known yet" everywhere, but for growths, which are known where the class or the root is.
+struct Cache<const SUMS: bool> {
     /// The overloops of each class, as a left part and as a right part.
     classes: Vec<[Table; 2]>,
     class_numbers: Numbers<[Table; 2]>,
@@ -70,6 +86,10 @@ struct Cache {
     cells: Vec<u16>,
     roots: Vec<u8>,
     leaves: [Word; SYMBOLS],
+    /// The growths, in the form with sums: by row and column, as a part and as a whole tree, and of the leaves.
+    growths: Vec<Growths>,
+    root_growths: Vec<u16>,
+    leaf_growths: [Growths; SYMBOLS],
     /// How many nodes of this tree may still be computed.
     left: usize,
     /// How many trees go to the search without a pass, and how many the last tree that was not passed sent there.
@@ -77,8 +97,8 @@ struct Cache {
     wait: usize,
 }
 
-/// The symbol of a root and the classes of its parts.
-struct Root(usize, Word, Word);
+/// The symbol of a root and the classes of its parts; in the form with sums, the growths of all nodes but the root.
+struct Root(usize, Word, Word, usize);
 
 /// Why a tree is not judged by classes: it may be one to refuse, or there are too many new classes.
 enum Stopped {
@@ -86,8 +106,9 @@ enum Stopped {
     Full,
 }
 
-impl Cache {
-    fn new(tables: &Tables, alphabet: Alphabet) -> Cache {
+impl<const SUMS: bool> Cache<SUMS> {
+    fn new(tables: &Overloops<SUMS>, alphabet: Alphabet) -> Cache<SUMS> {
+        let with_sums = if SUMS { ROWS * WIDTH } else { 0 };
         let mut cache = Cache {
             classes: vec![[[0; 24]; 2]],
             class_numbers: Numbers::default(),
@@ -100,6 +121,9 @@ impl Cache {
             cells: vec![0; ROWS * WIDTH],
             roots: vec![0; ROWS * WIDTH],
             leaves: [0; SYMBOLS],
+            growths: vec![0; with_sums],
+            root_growths: vec![0; with_sums],
+            leaf_growths: [0; SYMBOLS],
             left: 0,
             waiting: 0,
             wait: 0,
@@ -107,6 +131,8 @@ impl Cache {
         for symbol in (0..alphabet.symbols).filter(|&symbol| !alphabet.is_branch(symbol as u8)) {
             let overloops = [LEFT_PART, RIGHT_PART].map(|place| tables.leaf(symbol, place));
             cache.leaves[symbol] = cache.class(overloops).expect("there is room for the leaves");
+            cache.leaf_growths[symbol] =
+                growths_of([LEFT_PART, RIGHT_PART].map(|place| tables.leaf_growth(symbol, place)));
         }
         cache
     }
@@ -125,7 +151,7 @@ impl Cache {
     }
 
     /// Where the cells of a left part begin at a symbol.
-    fn row(&mut self, tables: &Tables, symbol: usize, class: usize) -> Option<usize> {
+    fn row(&mut self, tables: &Overloops<SUMS>, symbol: usize, class: usize) -> Option<usize> {
         let at = symbol * STRIDE + class;
         if self.row_of[at] == 0 {
             let done = tables.done_left(symbol, &self.classes[class][0]);
@@ -142,7 +168,7 @@ impl Cache {
     }
 
     /// The column of a right part at a symbol.
-    fn column(&mut self, tables: &Tables, symbol: usize, class: usize) -> Option<usize> {
+    fn column(&mut self, tables: &Overloops<SUMS>, symbol: usize, class: usize) -> Option<usize> {
         let at = symbol * STRIDE + class;
         if self.column_of[at] == 0 {
             let done = tables.done_right(symbol, &self.classes[class][1]);
@@ -160,7 +186,12 @@ impl Cache {
     }
 
     /// The cell of a node over two parts, with its row and column.
-    fn cell(&mut self, tables: &Tables, symbol: usize, [left, right]: [Word; 2]) -> Result<[usize; 2], Stopped> {
+    fn cell(
+        &mut self,
+        tables: &Overloops<SUMS>,
+        symbol: usize,
+        [left, right]: [Word; 2],
+    ) -> Result<[usize; 2], Stopped> {
         let [left, right] = [left & CLASS, right & CLASS].map(|class| class as usize);
         if left == 0 || right == 0 {
             return Err(Stopped::Off);
@@ -172,37 +203,56 @@ impl Cache {
     /// The class of a node that the look-up did not find.
     #[cold]
     #[inline(never)]
-    fn find(&mut self, tables: &Tables, symbol: usize, parts: [Word; 2]) -> Result<Word, Stopped> {
+    fn find(&mut self, tables: &Overloops<SUMS>, symbol: usize, parts: [Word; 2]) -> Result<Word, Stopped> {
         let [row, column] = self.cell(tables, symbol, parts)?;
         if self.cells[row + column] == 0 {
             self.left = self.left.checked_sub(1).ok_or(Stopped::Full)?;
-            let (left, right) = (&self.rows[row / WIDTH], &self.columns[symbol][column]);
-            let overloops = [LEFT_PART, RIGHT_PART].map(|place| tables.node_of(symbol, place, left, right));
+            let parts = [&self.rows[row / WIDTH], &self.columns[symbol][column]];
+            let mut grown = [0; 2];
+            let overloops = [LEFT_PART, RIGHT_PART]
+                .map(|place| tables.node_of(symbol, place, parts, &mut grown[place - LEFT_PART]));
             self.cells[row + column] = self.class(overloops).ok_or(Stopped::Full)? as u16;
+            if SUMS {
+                self.growths[row + column] = growths_of(grown);
+            }
         }
         Ok(self.cells[row + column].into())
     }
 
     /// Passes over all nodes but the root, from the last one back. The stack has the words of the subtrees that are whole and have no parent
     /// yet, the next one on top, over a word for none; its two top words are at hand as well. A tree that closes too soon or not at all
-    /// meets a part that is none, or leaves a stack of another depth.
-    fn pass(&mut self, tables: &Tables, branches: u32, file: &[u8], nodes: usize) -> Result<Root, Stopped> {
+    /// meets a part that is none, or leaves a stack of another depth. For the sum, a node is a left part exactly where the one before it is a
+    /// branch, so that its growths wait for that one.
+    fn pass(&mut self, tables: &Overloops<SUMS>, branches: u32, file: &[u8], nodes: usize) -> Result<Root, Stopped> {
         let mut stack = [0; MOST_HEIGHT + 2];
         let (mut first, mut second, mut deep) = (0, 0, 0);
+        let (mut sum, mut waiting) = (0, 0);
         for piece in pieces(file, nodes, 1).rev() {
             for &symbol in piece.iter().rev() {
                 let symbol = usize::from(symbol) % SYMBOLS;
                 if branches >> symbol & 1 == 1 {
                     let [left, right] = [first, second].map(|word| symbol * STRIDE + (word & CLASS) as usize);
-                    let mut class = self.cells[(self.row_of[left] + self.column_of[right]) as usize].into();
+                    let mut cell = (self.row_of[left] + self.column_of[right]) as usize;
+                    let mut class = self.cells[cell].into();
                     if class == 0 {
                         class = self.find(tables, symbol, [first, second])?;
+                        if SUMS {
+                            cell = (self.row_of[left] + self.column_of[right]) as usize;
+                        }
+                    }
+                    if SUMS {
+                        sum += as_left(waiting);
+                        waiting = self.growths[cell];
                     }
                     first = (first.max(second) & !CLASS) + LEVEL + class;
                     deep -= 1;
                     stack[deep] = first;
                     second = stack[deep - 1];
                 } else {
+                    if SUMS {
+                        sum += as_right(waiting);
+                        waiting = self.leaf_growths[symbol];
+                    }
                     deep += 1;
                     second = first;
                     first = self.leaves[symbol];
@@ -214,23 +264,34 @@ impl Cache {
         let whole = deep == if branches >> symbol & 1 == 1 { 2 } else { 0 };
         let low = first.max(second) < MOST_HEIGHT as Word * LEVEL;
         if whole && low {
-            Ok(Root(symbol, first, second))
+            Ok(Root(symbol, first, second, sum + as_left(waiting)))
         } else {
             Err(Stopped::Off)
         }
     }
 
-    /// Whether a whole tree is accepted.
-    fn accepts(&mut self, tables: &Tables, Root(symbol, left, right): Root) -> Result<bool, Stopped> {
+    /// Whether a whole tree is accepted, and the sum of the growths, or 0 in the form without sums.
+    fn accepts(
+        &mut self,
+        tables: &Overloops<SUMS>,
+        Root(symbol, left, right, sum): Root,
+    ) -> Result<(bool, usize), Stopped> {
         if left == 0 {
-            return Ok(tables.accepts_leaf(symbol));
+            return Ok((tables.accepts_leaf(symbol), tables.leaf_growth(symbol, ROOT)));
         }
         let [row, column] = self.cell(tables, symbol, [left, right])?;
-        if self.roots[row + column] == 0 {
-            let accepted = tables.accepts_over(symbol, &self.rows[row / WIDTH], &self.columns[symbol][column]);
-            self.roots[row + column] = if accepted { ACCEPTED } else { OTHER };
+        let cell = row + column;
+        if self.roots[cell] == 0 {
+            let mut growth = 0;
+            let parts = [&self.rows[row / WIDTH], &self.columns[symbol][column]];
+            let accepted = tables.accepts_over(symbol, parts, &mut growth);
+            self.roots[cell] = if accepted { ACCEPTED } else { OTHER };
+            if SUMS {
+                self.root_growths[cell] = growth as u16;
+            }
         }
-        Ok(self.roots[row + column] == ACCEPTED)
+        let growth = if SUMS { sum + usize::from(self.root_growths[cell]) } else { 0 };
+        Ok((self.roots[cell] == ACCEPTED, growth))
     }
 }
 
@@ -243,24 +304,28 @@ fn pieces(file: &[u8], nodes: usize, skipped: usize) -> impl DoubleEndedIterator
     })
 }
 
-/// An automaton, prepared for judging, with what was found of its classes so far.
-pub struct Lazy {
+/// An automaton, prepared for judging, with what was found of its classes so far; with the sum of the growths or without.
+pub struct Classes<const SUMS: bool> {
     alphabet: Alphabet,
-    tables: Tables,
+    tables: Overloops<SUMS>,
     search: Configurations,
-    cache: RefCell<Cache>,
+    cache: RefCell<Cache<SUMS>>,
 }
 
-impl Lazy {
-    pub fn prepare(file: &[u8]) -> Result<Lazy, Refusal> {
-        let (tables, search) = (Tables::prepare(file)?, Configurations::prepare(file)?);
+/// Without the sums, and with them.
+pub type Lazy = Classes<false>;
+pub type LazySums = Classes<true>;
+
+impl<const SUMS: bool> Classes<SUMS> {
+    pub fn prepare(file: &[u8]) -> Result<Self, Refusal> {
+        let (tables, search) = (Overloops::prepare(file)?, Configurations::prepare(file)?);
         let alphabet = tables.alphabet();
         let cache = RefCell::new(Cache::new(&tables, alphabet));
-        Ok(Lazy { alphabet, tables, search, cache })
+        Ok(Classes { alphabet, tables, search, cache })
     }
 
-    /// Whether a tree is accepted, by classes. Lines 1 to 6 and 10 are looked at before the pass, which establishes 11 and 12.
-    fn accepts(&self, cache: &mut Cache, file: &[u8]) -> Result<bool, Stopped> {
+    /// Whether a tree is accepted, by classes, and the sum. Lines 1 to 6 and 10 are looked at before the pass, which establishes 11 and 12.
+    fn accepts(&self, cache: &mut Cache<SUMS>, file: &[u8]) -> Result<(bool, usize), Stopped> {
         let nodes = tree::framed(file).ok_or(Stopped::Off)?;
         let highest = pieces(file, nodes, 0).flatten().fold(0, |highest, &symbol| symbol.max(highest));
         if usize::from(highest) >= self.alphabet.symbols {
@@ -271,34 +336,49 @@ impl Lazy {
         cache.accepts(&self.tables, root)
     }
 
-    /// Sends this tree and the next ones to the search, more of them each time; a cache that is full begins anew.
-    fn give_way(&self, cache: &mut Cache) {
+    /// Sends this tree and the next ones elsewhere, more of them each time; a cache that is full begins anew.
+    fn give_way(&self, cache: &mut Cache<SUMS>) {
         let wait = (2 * cache.wait + 1).min(MOST_WAIT);
         if cache.left > 0 {
             *cache = Cache::new(&self.tables, self.alphabet);
         }
         (cache.wait, cache.waiting) = (wait, wait);
     }
+
+    /// Whether a tree is accepted, and the sum; nothing where the pass does not judge it.
+    fn passed(&self, file: &[u8]) -> Option<(bool, usize)> {
+        let cache = &mut self.cache.borrow_mut();
+        if cache.waiting > 0 {
+            cache.waiting -= 1;
+            return None;
+        }
+        match self.accepts(cache, file) {
+            Ok(answer) => {
+                cache.wait = 0;
+                Some(answer)
+            }
+            Err(Stopped::Off) => None,
+            Err(Stopped::Full) => {
+                self.give_way(cache);
+                None
+            }
+        }
+    }
 }
 
 impl Judge for Lazy {
     /// What the pass does not judge goes to the search, with the exact reader.
     fn judge(&self, file: &[u8]) -> Verdict {
-        let cache = &mut self.cache.borrow_mut();
-        if cache.waiting > 0 {
-            cache.waiting -= 1;
-            return self.search.judge(file);
+        match self.passed(file) {
+            Some((accepted, _)) => Verdict::of(accepted),
+            None => self.search.judge(file),
         }
-        match self.accepts(cache, file) {
-            Ok(accepted) => {
-                cache.wait = 0;
-                Verdict::of(accepted)
-            }
-            Err(Stopped::Off) => self.search.judge(file),
-            Err(Stopped::Full) => {
-                self.give_way(cache);
-                self.search.judge(file)
-            }
-        }
+    }
+}
+
+impl JudgeSums for LazySums {
+    /// What the pass does not judge goes to the tables, with the exact reader.
+    fn judge_sums(&self, file: &[u8]) -> Judged {
+        self.passed(file).map_or_else(|| self.tables.judge_sums(file), Judged::of)
     }
 }

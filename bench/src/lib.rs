@@ -1,6 +1,6 @@
-//! Judging, the survey, the quick check, single, the one form and the percent in Rust, written from documents 01 and 02 alone; and the measuring
-//! of judging, the survey, the quick check, single, the one form and reading: the engine beside these. One call takes the bytes of an
-//! automaton's file and of trees' files end to end, and gives the tally; or the bytes of an automaton's file, and gives the survey's verdict and
+//! Judging, with the growth of closing and without, the survey, the quick check, single, the one form and the percent in Rust, written from documents
+//! 01 and 02 alone; and the measuring of judging, the survey, the quick check, single, the one form and reading: the engine beside these. One call
+//! takes the bytes of an automaton's file and of trees' files end to end, and gives the tally, with the sum of the growths or without; or the bytes of an automaton's file, and gives the survey's verdict and
 //! plan, the quick check's answer, or the file in its one form; or the bytes of a tree's file, and gives the block whose check is wrong, or the
 //! nodes. `stream` measures whole programs.
 pub mod agreement;
@@ -38,6 +38,7 @@ pub mod shapes;
 #[cfg(feature = "engine")]
 mod singles;
 pub mod stream;
+mod sums;
 pub mod survey;
 #[cfg(feature = "engine")]
 mod surveys;
@@ -93,6 +94,28 @@ impl Verdict {
 /// A prepared automaton that judges trees from their files.
 pub trait Judge {
     fn judge(&self, file: &[u8]) -> Verdict;
+}
+
+/// What judging says of a tree, with the sum of the growths of closing (document 02, W9), which is 0 for a refusal.
+#[derive(Clone, Copy, Debug, PartialEq, Eq)]
+pub struct Judged {
+    pub verdict: Verdict,
+    pub growth: usize,
+}
+
+impl Judged {
+    fn of((accepted, growth): (bool, usize)) -> Judged {
+        Judged { verdict: Verdict::of(accepted), growth }
+    }
+
+    fn refused(refusal: Refusal) -> Judged {
+        Judged { verdict: Verdict::Refused(refusal), growth: 0 }
+    }
+}
+
+/// A prepared automaton that judges trees from their files, with the sum.
+pub trait JudgeSums {
+    fn judge_sums(&self, file: &[u8]) -> Judged;
 }
 
 /// Compares the implementations, measures them, and prints the figures; the error says where two of them differ.

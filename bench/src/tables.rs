@@ -1,17 +1,18 @@
 //! Judging by overloops: the table of pairs of each subtree, from the leaves up (document 01, "Steps, runs, crossings").
 //! This is the yardstick, so rows and states that add nothing are left out, and the inner loops are such that the
-//! compiler makes vector code of them.
+//! compiler makes vector code of them. There are two forms: with the sum of the growths of closing (document 02, W9)
+//! and without, which does nothing for it.
 use crate::{
     automaton::{Automaton, LEFT, MOST_STATES, RIGHT, STAY, UP},
     tree::{self, Alphabet},
-    Judge, Refusal, Verdict,
+    Judge, JudgeSums, Judged, Refusal, Verdict,
 };
 
 /// Pairs of states: bit q of row p stands for (p, q).
 pub type Table = [u32; MOST_STATES];
 const NO_PAIRS: Table = [0; MOST_STATES];
 
-const ROOT: usize = 0;
+pub const ROOT: usize = 0;
 pub const LEFT_PART: usize = 1;
 pub const RIGHT_PART: usize = 2;
 
@@ -34,15 +35,33 @@ struct Transitions {
     right: Vec<Row>,
 }
 
-/// An automaton, prepared for judging.
-pub struct Tables {
+/// The overloops of a leaf, and its growth in the form with sums.
+struct Leaf {
+    overloops: Table,
+    growth: usize,
+}
+
+/// An automaton, prepared for judging, with the sum of the growths or without.
+pub struct Overloops<const SUMS: bool> {
+    /// Of the 24 states of a table, those that the automaton has not; each of them only gets its own pair in closing.
+    absent: usize,
     alphabet: Alphabet,
     initial: u32,
     accepting: u32,
     /// By symbol and place.
     transitions: Vec<[Transitions; 3]>,
-    /// The overloops of each leaf symbol, by place.
-    leaves: Vec<[Table; 3]>,
+    /// By leaf symbol and place.
+    leaves: Vec<[Leaf; 3]>,
+}
+
+/// Without the sums, and with them.
+pub type Tables = Overloops<false>;
+pub type TablesSums = Overloops<true>;
+
+/// The nodes that are still to come, and the growths of those before.
+struct Rest<'a> {
+    nodes: &'a [u8],
+    growth: usize,
 }
 
 /// The numbers in a set.
@@ -100,6 +119,19 @@ fn close(table: &mut Table) {
     }
 }
 
+/// The number of pairs: the bits of each byte of a row, added up byte by byte over the rows (at most 8 x 24), then the four bytes.
+#[inline(always)]
+fn size(table: &Table) -> usize {
+    let bits = |row: u32| {
+        let twos = row - (row >> 1 & 0x5555_5555);
+        let fours = (twos & 0x3333_3333) + (twos >> 2 & 0x3333_3333);
+        (fours + (fours >> 4)) & 0x0f0f_0f0f
+    };
+    let bytes: u32 = table.iter().map(|&row| bits(row)).sum();
+    let halves = (bytes & 0x00ff_00ff) + (bytes >> 8 & 0x00ff_00ff);
+    ((halves & 0xffff) + (halves >> 16)) as usize
+}
+
 /// The pairs of a closed table followed by a step up.
 #[inline(always)]
 fn follow(closed: &Table, at: &Transitions) -> Table {
@@ -142,58 +174,82 @@ fn joined(at: &Transitions, left: &Table, right: &Table) -> Table {
     table
 }
 
-/// The overloops of a leaf.
-fn leaf_overloops(at: &Transitions) -> Table {
-    let mut table = at.stay;
-    close(&mut table);
-    follow(&table, at)
-}
-
-impl Tables {
-    pub fn prepare(file: &[u8]) -> Result<Tables, Refusal> {
+impl<const SUMS: bool> Overloops<SUMS> {
+    pub fn prepare(file: &[u8]) -> Result<Self, Refusal> {
         let automaton = Automaton::read(file)?;
         let places = |symbol| [0, 1, 2].map(|place| compile(&automaton, symbol, place));
         let transitions: Vec<_> = (0..automaton.symbols).map(places).collect();
-        let leaves = transitions.iter().map(|places| places.each_ref().map(leaf_overloops)).collect();
+        let (absent, alphabet) = (MOST_STATES - automaton.states, Alphabet::of(&automaton));
         let Automaton { initial, accepting, .. } = automaton;
-        Ok(Tables { alphabet: Alphabet::of(&automaton), initial, accepting, transitions, leaves })
+        let mut prepared = Overloops { absent, alphabet, initial, accepting, transitions, leaves: Vec::new() };
+        prepared.leaves =
+            prepared.transitions.iter().map(|places| places.each_ref().map(|at| prepared.new_leaf(at))).collect();
+        Ok(prepared)
+    }
+
+    fn new_leaf(&self, at: &Transitions) -> Leaf {
+        let (mut table, mut growth) = (at.stay, 0);
+        self.close(&mut table, &mut growth);
+        Leaf { overloops: follow(&table, at), growth }
+    }
+
+    /// Closes a table; in the form with sums the pairs that it gets are added to the growth.
+    #[inline(always)]
+    fn close(&self, table: &mut Table, growth: &mut usize) {
+        if SUMS {
+            let given = *table;
+            close(table);
+            let added: Table = std::array::from_fn(|p| table[p] & !given[p]);
+            *growth += size(&added) - self.absent;
+        } else {
+            close(table);
+        }
     }
 
     /// Hands on the overloops of the subtree at the front of the list; the list goes on after it.
     #[inline(always)]
-    fn with_overloops(&self, nodes: &mut &[u8], place: usize, add: impl FnOnce(&Table)) {
-        let symbol = usize::from(nodes[0]);
-        if self.alphabet.is_branch(nodes[0]) {
-            add(&self.branch_overloops(nodes, place));
+    fn with_overloops(&self, rest: &mut Rest, place: usize, add: impl FnOnce(&Table)) {
+        let symbol = usize::from(rest.nodes[0]);
+        if self.alphabet.is_branch(rest.nodes[0]) {
+            add(&self.branch_overloops(rest, place));
         } else {
-            *nodes = &nodes[1..];
-            add(&self.leaves[symbol][place]);
+            rest.nodes = &rest.nodes[1..];
+            let leaf = &self.leaves[symbol][place];
+            if SUMS {
+                rest.growth += leaf.growth;
+            }
+            add(&leaf.overloops);
         }
     }
 
     /// The overloops of the branch at the front of the list.
-    fn branch_overloops(&self, nodes: &mut &[u8], place: usize) -> Table {
-        let at = &self.transitions[usize::from(nodes[0])][place];
-        follow(&self.closed(nodes, at), at)
+    fn branch_overloops(&self, rest: &mut Rest, place: usize) -> Table {
+        let at = &self.transitions[usize::from(rest.nodes[0])][place];
+        follow(&self.closed(rest, at), at)
     }
 
     /// The closed table of the node at the front of the list.
     #[inline(always)]
-    fn closed(&self, nodes: &mut &[u8], at: &Transitions) -> Table {
-        let branch = self.alphabet.is_branch(nodes[0]);
-        *nodes = &nodes[1..];
+    fn closed(&self, rest: &mut Rest, at: &Transitions) -> Table {
+        let branch = self.alphabet.is_branch(rest.nodes[0]);
+        rest.nodes = &rest.nodes[1..];
         let mut table = at.stay;
         if branch {
-            self.with_overloops(nodes, LEFT_PART, |part| add_part(&mut table, &at.left, part));
-            self.with_overloops(nodes, RIGHT_PART, |part| add_part(&mut table, &at.right, part));
+            self.with_overloops(rest, LEFT_PART, |part| add_part(&mut table, &at.left, part));
+            self.with_overloops(rest, RIGHT_PART, |part| add_part(&mut table, &at.right, part));
         }
-        close(&mut table);
+        self.close(&mut table, &mut rest.growth);
         table
     }
 
     /// The overloops of a leaf.
     pub fn leaf(&self, symbol: usize, place: usize) -> Table {
-        self.leaves[symbol][place]
+        self.leaves[symbol][place].overloops
+    }
+
+    /// The growth of a leaf, in the form with sums: as a part, or as a whole tree.
+    pub fn leaf_growth(&self, symbol: usize, place: usize) -> usize {
+        self.leaves[symbol][place].growth
     }
 
     /// The overloops of a node, from those of its parts.
@@ -216,21 +272,21 @@ impl Tables {
     }
 
     /// The closed table of a node at a place, from what its parts do.
-    fn closed_of(&self, symbol: usize, place: usize, left: &Done, right: &Done) -> Table {
+    fn closed_of(&self, symbol: usize, place: usize, [left, right]: [&Done; 2], growth: &mut usize) -> Table {
         let stay = &self.transitions[symbol][place].stay;
         let mut table = std::array::from_fn(|p| stay[p] | left[place][p] | right[place][p]);
-        close(&mut table);
+        self.close(&mut table, growth);
         table
     }
 
-    /// The overloops of a node at a place, from what its parts do.
-    pub fn node_of(&self, symbol: usize, place: usize, left: &Done, right: &Done) -> Table {
-        follow(&self.closed_of(symbol, place, left, right), &self.transitions[symbol][place])
+    /// The overloops of a node at a place, from what its parts do; in the form with sums its growth is added.
+    pub fn node_of(&self, symbol: usize, place: usize, parts: [&Done; 2], growth: &mut usize) -> Table {
+        follow(&self.closed_of(symbol, place, parts, growth), &self.transitions[symbol][place])
     }
 
-    /// Whether a node whose parts do this is accepted as a whole tree.
-    pub fn accepts_over(&self, symbol: usize, left: &Done, right: &Done) -> bool {
-        self.accepting(&self.closed_of(symbol, ROOT, left, right))
+    /// Whether a node whose parts do this is accepted as a whole tree; in the form with sums its growth is added.
+    pub fn accepts_over(&self, symbol: usize, parts: [&Done; 2], growth: &mut usize) -> bool {
+        self.accepting(&self.closed_of(symbol, ROOT, parts, growth))
     }
 
     /// Whether a tree is accepted: a leaf, or a node over parts with these overloops.
@@ -246,10 +302,12 @@ impl Tables {
         numbers(self.initial).any(|p| closed[p] & self.accepting != 0)
     }
 
-    /// Whether the tree with these nodes is accepted.
-    fn accepts(&self, mut nodes: &[u8]) -> bool {
+    /// Whether the tree with these nodes is accepted, and the sum of the growths, or 0 in the form without sums.
+    fn accepts(&self, nodes: &[u8]) -> (bool, usize) {
         let at = &self.transitions[usize::from(nodes[0])][ROOT];
-        self.accepting(&self.closed(&mut nodes, at))
+        let mut rest = Rest { nodes, growth: 0 };
+        let accepted = self.accepting(&self.closed(&mut rest, at));
+        (accepted, rest.growth)
     }
 }
 
@@ -257,7 +315,16 @@ impl Judge for Tables {
     fn judge(&self, file: &[u8]) -> Verdict {
         match tree::read(file, self.alphabet) {
             Err(refusal) => Verdict::Refused(refusal),
-            Ok(nodes) => Verdict::of(self.accepts(nodes.symbols())),
+            Ok(nodes) => Verdict::of(self.accepts(nodes.symbols()).0),
+        }
+    }
+}
+
+impl JudgeSums for TablesSums {
+    fn judge_sums(&self, file: &[u8]) -> Judged {
+        match tree::read(file, self.alphabet) {
+            Err(refusal) => Judged::refused(refusal),
+            Ok(nodes) => Judged::of(self.accepts(nodes.symbols())),
         }
     }
 }

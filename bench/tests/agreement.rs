@@ -6,11 +6,11 @@ use bench::{
     batch,
     configurations::Configurations,
     families::{self, Family, Make, EXPLODING, FAMILIES},
-    lazy::Lazy,
+    lazy::{Lazy, LazySums},
     random::Random,
     stream,
-    tables::Tables,
-    tree, Judge, Refusal, Verdict,
+    tables::{Tables, TablesSums},
+    tree, Judge, JudgeSums, Judged, Refusal, Verdict,
 };
 use std::io::{self, Read};
 
@@ -31,16 +31,22 @@ fn some_tree(make: Make) -> impl Fn(&Automaton, usize, &mut Random) -> Vec<u8> {
     }
 }
 
-/// One lazy judge over all trees of an automaton, so that its cache fills, gives way and begins anew.
+/// One lazy judge over all trees of an automaton, so that its cache fills, gives way and begins anew; the same with the sums.
 fn compare(family: &Family, trees: usize, make: Make) {
     for case in family.cases_of(trees, some_tree(make)) {
         let lazy = Lazy::prepare(&case.automaton).unwrap();
         let search = Configurations::prepare(&case.automaton).unwrap();
         let tables = Tables::prepare(&case.automaton).unwrap();
+        let lazy_sums = LazySums::prepare(&case.automaton).unwrap();
+        let tables_sums = TablesSums::prepare(&case.automaton).unwrap();
         for (number, tree) in case.trees.iter().enumerate() {
             let expected = search.judge(tree);
             assert_eq!(lazy.judge(tree), expected, "{}: tree {number}", family.name);
             assert_eq!(tables.judge(tree), expected, "{}: tree {number}", family.name);
+            let Judged { verdict, growth } = tables_sums.judge_sums(tree);
+            assert_eq!(verdict, expected, "{}: tree {number}", family.name);
+            assert_eq!(lazy_sums.judge_sums(tree), Judged { verdict, growth }, "{}: tree {number}", family.name);
+            assert_eq!(growth == 0, matches!(expected, Verdict::Refused(_)), "{}: tree {number}", family.name);
         }
     }
 }

@@ -18,6 +18,14 @@ extern "C" {
         automaton_length: usize,
         tree: *const u8,
         tree_length: usize,
+        growth: *mut [usize; 1],
+        told: *mut Told,
+    ) -> u32;
+    fn engine_accepts(
+        automaton: *const u8,
+        automaton_length: usize,
+        tree: *const u8,
+        tree_length: usize,
         told: *mut Told,
     ) -> u32;
     fn engine_judge_all(
@@ -27,6 +35,8 @@ extern "C" {
         trees_length: usize,
         answers: *mut usize,
         answers_length: usize,
+        growths: *mut usize,
+        growths_length: usize,
         told: *mut Told,
     ) -> u32;
     fn engine_survey(file: *const u8, length: usize, plan: *mut u8, plan_length: usize, told: *mut Told) -> u32;
@@ -99,13 +109,19 @@ fn telling(call: impl FnOnce(*mut Told) -> u32) -> (u32, Told) {
     (number, told)
 }
 
-pub fn judge(automaton: &[u8], tree: &[u8]) -> (u32, Told) {
-    // SAFETY: both pointers are of slices, with their lengths; `told` is written to, and is the call's own.
-    telling(|told| unsafe { engine_judge(automaton.as_ptr(), automaton.len(), tree.as_ptr(), tree.len(), told) })
+pub fn judge(automaton: &[u8], tree: &[u8], growth: &mut [usize; 1]) -> (u32, Told) {
+    let (file, length) = (automaton.as_ptr(), automaton.len());
+    // SAFETY: both files' pointers are of slices, with their lengths; `growth` is one number, lent to be written to, and `told` is the call's own.
+    telling(|told| unsafe { engine_judge(file, length, tree.as_ptr(), tree.len(), growth, told) })
 }
 
-pub fn judge_all(automaton: &[u8], trees: &[u8], answers: &mut [usize]) -> (u32, Told) {
-    // SAFETY: the pointers are of slices, with their lengths; `answers` is lent to be written to, and `told` is the call's own.
+pub fn accepts(automaton: &[u8], tree: &[u8]) -> (u32, Told) {
+    // SAFETY: both pointers are of slices, with their lengths; `told` is written to, and is the call's own.
+    telling(|told| unsafe { engine_accepts(automaton.as_ptr(), automaton.len(), tree.as_ptr(), tree.len(), told) })
+}
+
+pub fn judge_all(automaton: &[u8], trees: &[u8], answers: &mut [usize], growths: &mut [usize]) -> (u32, Told) {
+    // SAFETY: the pointers are of slices, with their lengths; `answers` and `growths` are lent to be written to, and `told` is the call's own.
     telling(|told| unsafe {
         engine_judge_all(
             automaton.as_ptr(),
@@ -114,6 +130,8 @@ pub fn judge_all(automaton: &[u8], trees: &[u8], answers: &mut [usize]) -> (u32,
             trees.len(),
             answers.as_mut_ptr(),
             answers.len(),
+            growths.as_mut_ptr(),
+            growths.len(),
             told,
         )
     })

@@ -1,8 +1,11 @@
-//! The engine for tree-walking automata, from its static library: judging one tree and many, the survey and its plan's tree, the quick check, single, the one
-//! form of an automaton's file, element texts as trees' files, watching a run, two logs held together, the tally, and the report.
+//! The engine for tree-walking automata, from its static library: judging one tree and many, with the growth of closing or without, the survey and
+//! its plan's tree, the quick check, single, the one form of an automaton's file, element texts as trees' files, watching a run, two logs held
+//! together, the tally, and the report.
 //! Files are given as their bytes; every input is answered, a bad file by its refusal. Calls share nothing, and may be made by any number
 //! of threads; `bindings/engine.h` says how much stack each takes.
-mod declared;
+// The functions as they are, for the tests: what they write, and what they leave.
+#[doc(hidden)]
+pub mod declared;
 
 use declared::Told;
 
@@ -42,6 +45,15 @@ pub struct Refusal {
 pub enum Verdict {
     Accepted,
     Other,
+}
+
+/// What judging says of a tree, with the growth of closing: over all nodes, the pairs of states that the closed table of the node has and the given
+/// one lacks; at most 576 a node. The given table has the pairs (p, q) of a rule that stays, from p to q, and of a rule down from p to p' and a crossing
+/// (p', q) of that part; the closed one has these, every (p, p), and (p, q) wherever a chain of given pairs leads from p to q.
+#[derive(Clone, Copy, Debug, PartialEq, Eq)]
+pub struct Judged {
+    pub verdict: Verdict,
+    pub growth: usize,
 }
 
 /// What the survey says of an automaton: a tree of this height is accepted, and the plan has so many rows of three bytes; too many classes
@@ -116,21 +128,57 @@ impl From<Result<Verdict, Refusal>> for Outcome {
     }
 }
 
-/// Whether an automaton's file accepts a tree's file.
-pub fn judge(automaton: &[u8], tree: &[u8]) -> Result<Verdict, Refusal> {
-    match declared::judge(automaton, tree) {
-        (0, _) => Ok(Verdict::Accepted),
-        (1, _) => Ok(Verdict::Other),
-        (_, told) => Err(Refusal::of(told)),
+impl From<Result<Judged, Refusal>> for Outcome {
+    fn from(answer: Result<Judged, Refusal>) -> Outcome {
+        answer.map(|judged| judged.verdict).into()
     }
+}
+
+/// Whether an automaton's file accepts a tree's file, with the growth of closing.
+pub fn judge(automaton: &[u8], tree: &[u8]) -> Result<Judged, Refusal> {
+    let mut growth = [0];
+    let verdict = told_verdict(declared::judge(automaton, tree, &mut growth))?;
+    Ok(Judged { verdict, growth: growth[0] })
+}
+
+/// The verdict that `judge` gives, or its refusal. This is faster, a search over configurations.
+pub fn accepts(automaton: &[u8], tree: &[u8]) -> Result<Verdict, Refusal> {
+    told_verdict(declared::accepts(automaton, tree))
 }
 
 /// What `judge` answers of each of some trees' files, end to end, in their order: a file's first block gives its length; refusals 1 to 4, and trees
 /// that stop inside a file, are the last answer. One call with many files is faster than many calls.
-pub fn judge_all(automaton: &[u8], trees: &[u8]) -> Result<Vec<Result<Verdict, Refusal>>, Refusal> {
-    let mut numbers = vec![0; 3 * (trees.len() / 512 + 1)];
-    match declared::judge_all(automaton, trees, &mut numbers) {
+pub fn judge_all(automaton: &[u8], trees: &[u8]) -> Result<Vec<Result<Judged, Refusal>>, Refusal> {
+    let mut growths = vec![0; most_files(trees)];
+    let verdicts = verdicts(automaton, trees, &mut growths)?;
+    let judged = |(answer, growth): (Result<Verdict, Refusal>, usize)| Ok(Judged { verdict: answer?, growth });
+    Ok(verdicts.into_iter().zip(growths).map(judged).collect())
+}
+
+/// What `accepts` answers of each of some trees' files, end to end, as `judge_all` takes them. This is faster than with the growth.
+pub fn accepts_all(automaton: &[u8], trees: &[u8]) -> Result<Vec<Result<Verdict, Refusal>>, Refusal> {
+    verdicts(automaton, trees, &mut [])
+}
+
+/// The most files that so many bytes are.
+fn most_files(trees: &[u8]) -> usize {
+    trees.len() / 512 + 1
+}
+
+/// The verdicts on trees' files, end to end, and the growths of as many as there is room for.
+fn verdicts(automaton: &[u8], trees: &[u8], growths: &mut [usize]) -> Result<Vec<Result<Verdict, Refusal>>, Refusal> {
+    let mut numbers = vec![0; 3 * most_files(trees)];
+    match declared::judge_all(automaton, trees, &mut numbers, growths) {
         (0, [files, ..]) => Ok(numbers.chunks_exact(3).take(files).map(answer).collect()),
+        (_, told) => Err(Refusal::of(told)),
+    }
+}
+
+/// An answer by its number, and what was told with it.
+fn told_verdict(answer: (u32, Told)) -> Result<Verdict, Refusal> {
+    match answer {
+        (0, _) => Ok(Verdict::Accepted),
+        (1, _) => Ok(Verdict::Other),
         (_, told) => Err(Refusal::of(told)),
     }
 }

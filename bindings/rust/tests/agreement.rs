@@ -74,7 +74,7 @@ fn compare_verdicts(cases: impl Iterator<Item = (Vec<u8>, Vec<Vec<u8>>)>) -> Cou
     let mut counts = Counts::default();
     for (number, (automaton, trees)) in cases.enumerate() {
         for tree in trees {
-            let answer = engine::judge(&automaton, &tree);
+            let answer = engine::accepts(&automaton, &tree);
             assert_eq!(answer, judged(&automaton, &tree), "automaton {number}");
             match answer {
                 Ok(Verdict::Accepted) => counts.accepted += 1,
@@ -113,8 +113,8 @@ fn lengths() {
     };
     for length in 0..=5200 {
         for file in [resized(&[], length), resized(&automaton, length), resized(&tree, length)] {
-            assert_eq!(engine::judge(&file, &tree), judged(&file, &tree), "automaton of {length} bytes");
-            assert_eq!(engine::judge(&automaton, &file), judged(&automaton, &file), "tree of {length} bytes");
+            assert_eq!(engine::accepts(&file, &tree), judged(&file, &tree), "automaton of {length} bytes");
+            assert_eq!(engine::accepts(&automaton, &file), judged(&automaton, &file), "tree of {length} bytes");
         }
     }
 }

@@ -7,7 +7,7 @@ use bench::{
     random::Random,
     Judge,
 };
-use engine::{judge, judge_all, File, Refusal, Verdict};
+use engine::{accepts, accepts_all, File, Refusal, Verdict};
 
 const BATCHES: u64 = 3000;
 
@@ -46,7 +46,7 @@ fn expected(automaton: &[u8], mut trees: &[u8]) -> Result<Vec<Result<Verdict, Re
     let mut answers = Vec::new();
     while !trees.is_empty() {
         let Some(file) = first_file(trees) else {
-            let last = judge(automaton, trees);
+            let last = accepts(automaton, trees);
             assert!(last.is_err(), "a file that is cut off was judged");
             answers.push(last);
             break;
@@ -73,7 +73,7 @@ fn small() {
     for seed in 1..=BATCHES {
         let mut random = Random::new(seed);
         let (automaton, trees) = small_batch(&mut random);
-        let answers = judge_all(&automaton, &trees);
+        let answers = accepts_all(&automaton, &trees);
         assert_eq!(answers, expected(&automaton, &trees), "batch {seed}");
         refused += answers.iter().flatten().filter(|answer| answer.is_err()).count();
     }
@@ -86,7 +86,7 @@ fn large() {
     for case in FAMILIES.iter().flat_map(|family| family.cases()) {
         let files: Vec<u8> = case.trees.concat();
         let trees = [&files[..], &files[..], &files[..]].concat();
-        assert_eq!(judge_all(&case.automaton, &trees), expected(&case.automaton, &trees));
+        assert_eq!(accepts_all(&case.automaton, &trees), expected(&case.automaton, &trees));
     }
 }
 
@@ -95,6 +95,6 @@ fn large() {
 fn refused() {
     let automaton =
         Automaton { states: 1, symbols: 2, initial: 1, accepting: 1, branches: 1, rules: Vec::new() }.write();
-    assert_eq!(judge_all(&automaton, &[]), Ok(Vec::new()));
-    assert_eq!(judge_all(&automaton[..511], &[]), Err(Refusal { number: 1, file: File::Automaton, place: 0 }));
+    assert_eq!(accepts_all(&automaton, &[]), Ok(Vec::new()));
+    assert_eq!(accepts_all(&automaton[..511], &[]), Err(Refusal { number: 1, file: File::Automaton, place: 0 }));
 }

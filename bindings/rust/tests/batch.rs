@@ -110,7 +110,7 @@ fn sizes() {
         let files: Vec<Vec<u8>> = (0..20).map(|_| full(2 * random.below(2048) + 1)).collect();
         let mut tally = Tally::default();
         for file in &files {
-            let outcome = Outcome::from(engine::judge(&automaton, file));
+            let outcome = Outcome::from(engine::accepts(&automaton, file));
             assert_eq!(outcome, Outcome::Accepted);
             assert_eq!(count(&mut tally, outcome), Ok(()));
         }

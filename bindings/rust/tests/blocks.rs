@@ -10,7 +10,7 @@ use bench::{
     tree::{self, MOST_HEIGHT},
     Judge,
 };
-use engine::{canonical, judge, quick, single, File, Refusal, Verdict, AUTOMATON, TREE};
+use engine::{accepts, canonical, quick, single, File, Refusal, Verdict, AUTOMATON, TREE};
 use std::fmt::Debug;
 
 const TREES: u64 = 4000;
@@ -61,7 +61,7 @@ fn bits_of_a_tree() {
     let symbols = shapes::tree(&automaton, Shape::Full, BRANCHES, MOST_HEIGHT, &mut Random::new(1));
     let (automaton, file) = (automaton.write(), tree::write(&symbols));
     assert_eq!(file.len(), 9 * BLOCK);
-    each_bit(&file, File::Tree, |file| judge(&automaton, file));
+    each_bit(&file, File::Tree, |file| accepts(&automaton, file));
 }
 
 #[test]
@@ -72,7 +72,7 @@ fn bits_of_an_automaton() {
     each_bit(&file, File::Automaton, quick);
     each_bit(&file, File::Automaton, single);
     each_bit(&file, File::Automaton, |file| canonical(file, &mut [0; AUTOMATON]));
-    each_bit(&file, File::Automaton, |file| judge(file, &leaf));
+    each_bit(&file, File::Automaton, |file| accepts(file, &leaf));
 }
 
 // ---- files by chance
@@ -248,12 +248,12 @@ fn files_by_chance() {
     for seed in 1..=TREES {
         let mut random = Random::new(seed);
         let mut tree = some_tree(&automaton, &mut random);
-        let good = judge(&file, &tree);
+        let good = accepts(&file, &tree);
         assert_eq!(good, judged(&in_rust, &tree), "tree {seed}");
         let which = seed as usize % DAMAGE.len();
         let (name, damage, _) = DAMAGE[which];
         damage(&mut tree, &mut random);
-        let damaged = judge(&file, &tree);
+        let damaged = accepts(&file, &tree);
         assert_eq!(damaged, judged(&in_rust, &tree), "tree {seed}, {name}");
         counts.add(good, which, damaged);
     }

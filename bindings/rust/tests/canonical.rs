@@ -7,7 +7,7 @@ use bench::{
     families::FAMILIES,
     random::Random,
 };
-use engine::{canonical, judge, quick, single, survey, File, Quick, Refusal, Survey, Verdict, AUTOMATON, PLAN};
+use engine::{accepts, canonical, quick, single, survey, File, Quick, Refusal, Survey, Verdict, AUTOMATON, PLAN};
 use std::collections::{BTreeMap, BTreeSet};
 
 const AUTOMATA: u64 = 8000;
@@ -366,8 +366,8 @@ impl Answers {
     /// On trees, of the survey with its plan, of the quick check, and of single.
     fn compare(&mut self, file: &[u8], form: &[u8], trees: &[Vec<u8>]) {
         for tree in trees {
-            let verdict = judge(file, tree);
-            assert_eq!(judge(form, tree), verdict);
+            let verdict = accepts(file, tree);
+            assert_eq!(accepts(form, tree), verdict);
             self.add(match verdict {
                 Ok(Verdict::Accepted) => "accepted",
                 Ok(Verdict::Other) => "other",

@@ -7,7 +7,7 @@ use bench::{
     random::Random,
     tree::{self, MOST_HEIGHT, MOST_NODES},
 };
-use engine::{judge, markup, File, Refusal, TREE};
+use engine::{accepts, markup, File, Refusal, TREE};
 
 const TEXTS: u64 = 20_000;
 const SPACES: [u8; 4] = *b"\t\n\r ";
@@ -358,7 +358,7 @@ impl Counts {
         self.add(&answer);
         match &answer {
             Ok(tree) => {
-                assert!(judge(file, tree).is_ok(), "{}", text.escape_ascii());
+                assert!(accepts(file, tree).is_ok(), "{}", text.escape_ascii());
                 assert_eq!(compare(file, text, tree.len(), random).as_ref(), Ok(tree));
                 for room in [tree.len() - 1, random.below(tree.len())] {
                     let answer = compare(file, text, room, random);

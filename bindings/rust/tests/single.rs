@@ -6,7 +6,7 @@ use bench::{
     families::FAMILIES,
     random::Random,
 };
-use engine::{judge, single, survey, File, Refusal, PLAN};
+use engine::{accepts, single, survey, File, Refusal, PLAN};
 
 const AUTOMATA: u64 = 8000;
 
@@ -127,6 +127,6 @@ fn same_answers() {
         assert_eq!(survey(&file, &mut plan), survey(&repeated, &mut again), "automaton {seed}");
         assert_eq!(plan, again, "automaton {seed}");
         let tree = bench::agreement::small_tree_file(&automaton, &mut random);
-        assert_eq!(judge(&file, &tree), judge(&repeated, &tree), "automaton {seed}");
+        assert_eq!(accepts(&file, &tree), accepts(&repeated, &tree), "automaton {seed}");
     }
 }

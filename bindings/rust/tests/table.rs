@@ -4,8 +4,8 @@ use bench::{
     blocks, tree,
 };
 use engine::{
-    canonical, count, judge, percent, quick, single, survey, witness, File, Outcome, Quick, Refusal, Survey, Tally,
-    Verdict, PLAN,
+    accepts, canonical, count, judge, percent, quick, single, survey, witness, File, Judged, Outcome, Quick, Refusal,
+    Survey, Tally, Verdict, PLAN,
 };
 
 const RULES: [[u8; 5]; 4] = [[2, 0, 0, 3, 0], [2, 0, 2, 3, 0], [1, 0, 2, 1, 1], [2, 1, 2, 1, 1]];
@@ -39,6 +39,7 @@ fn refused<T>(number: u32, file: File, place: usize) -> Result<T, Refusal> {
 #[track_caller]
 fn automaton_refused(automaton: &[u8], number: u32, place: usize) {
     assert_eq!(judge(automaton, &tree::write(&[2, 0, 1])), refused(number, File::Automaton, place));
+    assert_eq!(accepts(automaton, &tree::write(&[2, 0, 1])), refused(number, File::Automaton, place));
     assert_eq!(survey(automaton, &mut [0; PLAN]), refused(number, File::Automaton, place));
     assert_eq!(quick(automaton), refused(number, File::Automaton, place));
     assert_eq!(single(automaton), refused(number, File::Automaton, place));
@@ -49,13 +50,17 @@ fn automaton_refused(automaton: &[u8], number: u32, place: usize) {
 #[track_caller]
 fn tree_refused(tree: &[u8], number: u32, place: usize) {
     assert_eq!(judge(&example().write(), tree), refused(number, File::Tree, place));
+    assert_eq!(accepts(&example().write(), tree), refused(number, File::Tree, place));
 }
 
+/// Closing adds (0, 0) and (1, 1) at each of three nodes, and no other pair: (0, 1) is given at the root of the tree that is accepted.
 #[test]
 fn documents_example() {
     let file = example().write();
-    assert_eq!(judge(&file, &tree::write(&[2, 0, 1])), Ok(Verdict::Accepted));
-    assert_eq!(judge(&file, &tree::write(&[2, 1, 0])), Ok(Verdict::Other));
+    for (symbols, verdict) in [([2, 0, 1], Verdict::Accepted), ([2, 1, 0], Verdict::Other)] {
+        assert_eq!(accepts(&file, &tree::write(&symbols)), Ok(verdict));
+        assert_eq!(judge(&file, &tree::write(&symbols)), Ok(Judged { verdict, growth: 6 }));
+    }
     assert_eq!(single(&file), Ok(true));
     assert_eq!(quick(&file), Ok(Quick::Unsure));
     let mut plan = [9; PLAN];

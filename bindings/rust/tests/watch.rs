@@ -81,7 +81,7 @@ impl Given {
         let judge = Configurations::prepare(&self.automaton).expect("it was read");
         let accepted = judge.judge(&self.tree) == Verdict::Accepted;
         let verdict = if accepted { engine::Verdict::Accepted } else { engine::Verdict::Other };
-        assert_eq!(engine::judge(&self.automaton, &self.tree), Ok(verdict));
+        assert_eq!(engine::accepts(&self.automaton, &self.tree), Ok(verdict));
         match watched {
             Watched::Passed { .. } => assert!(accepted),
             Watched::Stuck { .. } | Watched::Circling { .. } => assert!(!accepted),

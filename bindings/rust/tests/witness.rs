@@ -138,7 +138,7 @@ fn found() {
         let Ok(Survey::Found { height, rows }) = engine::survey(&file, &mut buffer) else { continue };
         let room = random.from_to(TREE, TREE + 10);
         let letter = compare(&file, &buffer[..3 * rows], room, &mut random).expect("a letter");
-        assert_eq!(engine::judge(&file, &letter), Ok(Verdict::Accepted));
+        assert_eq!(engine::accepts(&file, &letter), Ok(Verdict::Accepted));
         compare(&file, &buffer[..3 * rows], letter.len(), &mut random).expect("a letter");
         compare(&file, &buffer[..3 * rows], letter.len() - 1, &mut random).expect_err("too short an output");
         heights[height] += 1;
