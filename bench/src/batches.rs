@@ -9,10 +9,10 @@ use crate::{
 
 /// How often the trees of an automaton are in its batch, of 64 trees and of 1,024.
 const REPEATS: usize = 16;
-const WARM_REPEATS: usize = 256;
-const ROUNDS: usize = 10;
+pub const WARM_REPEATS: usize = 256;
+pub const ROUNDS: usize = 10;
 /// Trees of an automaton that come once each.
-const LARGE: usize = 128;
+pub const LARGE: usize = 128;
 const SMALL: usize = 2048;
 
 const WITHOUT_CLASSES: Peer = Peer::Best("best without classes", &[TABLES, CONFIGURATIONS]);

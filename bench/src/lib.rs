@@ -19,6 +19,8 @@ mod engine;
 pub mod families;
 #[cfg(feature = "engine")]
 mod forms;
+#[cfg(feature = "engine")]
+mod growths;
 mod judges;
 pub mod lazy;
 pub mod logs;
@@ -127,6 +129,8 @@ pub fn run() -> Result<(), String> {
     );
     batches::run()?;
     calls::run()?;
+    #[cfg(feature = "engine")]
+    growths::run()?;
     #[cfg(feature = "engine")]
     surveys::run()?;
     #[cfg(feature = "engine")]
