@@ -1,6 +1,6 @@
 -- The answers of a batch, file by file; the tally of a batch is these, each counted in turn (`Counted.batch-answers`). And how they are written,
--- three numbers each.
--- Interface: `answersOf`, `countedAnswers`, `answerNumbers`, `allNumbers`, `Part`, `judgedAll`.
+-- three numbers each, with the sums of growths.
+-- Interface: `answersOf`, `countedAnswers`, `answerNumbers`, `allNumbers`, `afterFiles`, `growthsAfter`, `Part`, `Stopped`.
 use Prim.Native.Nat.{ℕ, zero, suc, _+_, _*_, _<_}
 use mathlib.Core.Path.{_≡_}
 use mathlib.Core.Bool.{Bool, true, false, _||_}
@@ -10,6 +10,7 @@ use lib.Dec.{eqb, ltb}
 use lib.ListN.{length, take, drop}
 use Rattle.algorithms.specs.Automaton.{Automaton}
 use Rattle.membership.specs.Judged.{judgedBy}
+use Rattle.membership.specs.Grown.{growthBy}
 use Rattle.membership.specs.declared.Answer.{Answer}
 use Rattle.tally.specs.Tally.{countedUp}
 use Rattle.tally.specs.declared.Tally.{Tally}
@@ -55,6 +56,21 @@ answerNumbers (Answer.Refused r) = 2 ∷ r .number ∷ r .place ∷ []
 abbrev pub allNumbers : List Answer → List ℕ
 allNumbers [] = []
 allNumbers (a ∷ l) = answerNumbers a ++ allNumbers l
+
+-- ---- the sums of growths (document 02, W9), a number each
+
+-- what follows so many files
+unfoldable pub afterFiles : (files : ℕ) → (s : List ℕ) → List ℕ
+afterFiles zero s = s
+afterFiles (suc n) s = afterFiles n (restOf s)
+
+-- the sum of each of so many files in turn, as far as a lent slice has room; then what stood there
+unfoldable pub growthsAfter : Automaton → (files : ℕ) → (s lent : List ℕ) → List ℕ
+growthsAfter A zero s lent = lent
+growthsAfter A (suc n) s [] = []
+growthsAfter A (suc n) s (x ∷ lent) = growthBy A (take (firstLength s) s) ∷ growthsAfter A n (restOf s) lent
+
+-- ---- some files of a batch
 
 -- what follows the files that were judged, where the batch goes on
 abbrev pub laterIf : (more : Bool) → List Answer → List Answer

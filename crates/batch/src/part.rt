@@ -1,4 +1,4 @@
-// The files at the front of a batch, judged one after another by a cache, their answers written to a lent slice.
+// The files at the front of a batch, judged one after another by a cache, their answers written to a lent slice, and to another their sums of growths.
 use crate::back;
 use crate::ends_batch;
 use crate::first_length;
@@ -15,15 +15,16 @@ ghost use mathlib.Core.Path.{_≡_};
 ghost use mathlib.Core.Bool.{true, not};
 ghost use mathlib.Core.List.{_∷_, []};
 ghost use Prim.Native.Nat.{_+_, _*_, _<_, _≤_};
-ghost use lib.ListN.{length, drop};
+ghost use lib.ListN.{length, drop, set};
 ghost use lib.Seq.{sets};
 ghost use Rattle.algorithms.specs.Automaton.{Automaton};
 ghost use Rattle.automaton.specs.File.{WithinLimits};
 ghost use Rattle.overloops.specs.Ready.{Headed};
 ghost use Rattle.class_tables.specs.Cache.{CachedIn};
 ghost use Rattle.membership.specs.Judged.{judgedBy};
+ghost use Rattle.membership.specs.Grown.{growthBy};
 ghost use Rattle.batch.specs.Batch.{firstLength, endsBatch};
-ghost use Rattle.batch.specs.Answers.{answerNumbers, Part, Stopped};
+ghost use Rattle.batch.specs.Answers.{answerNumbers, afterFiles, growthsAfter, Part, Stopped};
 
 // How many files were judged, how many bytes they are, and whether the batch goes on after them.
 pub struct Judged {
@@ -66,13 +67,24 @@ fn put_numbers(answers: &mut [usize], at: usize, kind: usize, number: usize, pla
     answers[at + 2] = place;
 }
 
-// Judges a file and writes its answer; whether the batch goes on after it.
+// Writes a number at a place, where there is one.
+fn put_growth(growths: &mut [usize], at: usize, growth: u32)
+    ensures { λ _. ⌜ now (growths .exit) ≡ set (now (growths .entry)) at growth ⌝ }
+{
+    if at < growths.len() {
+        growths[at] = growth as usize;
+    }
+}
+
+// Judges a file and writes its answer and, where there is room, its sum of growths; whether the batch goes on after it.
 pub fn judge_one(
     header: Header,
     table: &TransitionTable,
     file: &[u8],
     answers: &mut [usize],
     at: usize,
+    growths: &mut [usize],
+    place: usize,
     counts: &mut Counts,
     store: &mut Store,
     maps: &mut IndexMaps,
@@ -80,25 +92,42 @@ pub fn judge_one(
     hints: &mut Hints,
 ) -> bool
     requires { ⌜ WithinLimits header × (at + 3 ≤ length (now answers)) ⌝ }
-    ensures { λ r. ⌜ (length (now (answers .exit)) ≡ length (now (answers .entry))) × ((A : Automaton) → Headed A header (now (table .entry))
+    ensures { λ r. ⌜ (length (now (answers .exit)) ≡ length (now (answers .entry))) × (length (now (growths .exit)) ≡ length (now (growths .entry)))
+        × ((A : Automaton) → Headed A header (now (table .entry))
         → CachedIn A (now (counts .entry)) (now (store .entry)) (now (maps .entry)) (now (cells .entry))
         → CachedIn A (now (counts .exit)) (now (store .exit)) (now (maps .exit)) (now (cells .exit))
         × (now (answers .exit) ≡ sets (now (answers .entry)) at (answerNumbers (judgedBy A (now (file .entry)))))
-        × (r ≡ not (endsBatch (judgedBy A (now (file .entry)))))) ⌝ }
+        × (r ≡ not (endsBatch (judgedBy A (now (file .entry)))))
+        × (now (growths .exit) ≡ set (now (growths .entry)) place (growthBy A (now (file .entry))))) ⌝ }
 {
-    let answer = judge_with(header, table, file, counts, store, maps, cells, hints);
+    let sums = place < growths.len();
+    let judged = judge_with(
+        header,
+        table,
+        file,
+        sums,
+        counts,
+        store,
+        maps,
+        cells,
+        hints,
+    );
+    let answer = judged.answer;
     let numbers = numbers_of(answer);
     put_numbers(answers, at, numbers[0], numbers[1], numbers[2]);
+    put_growth(growths, place, judged.growth);
     let last = ends_batch(answer);
     !last
 }
 
-// Judges the whole files at the front, as many as there is room for their answers, until one ends the batch.
-pub fn judge_part(
+// Judges the whole files at the front, as many as there is room for their answers, until one ends the batch. As far as there is room for sums of
+// growths these are formed and written as well.
+pub fn weigh_part(
     header: Header,
     table: &TransitionTable,
     bytes: &[u8],
     answers: &mut [usize],
+    growths: &mut [usize],
     counts: &mut Counts,
     store: &mut Store,
     maps: &mut IndexMaps,
@@ -112,7 +141,10 @@ pub fn judge_part(
         × ((A : Automaton) → Headed A header (now (table .entry))
         → CachedIn A (now (counts .entry)) (now (store .entry)) (now (maps .entry)) (now (cells .entry))
         → CachedIn A (now (counts .exit)) (now (store .exit)) (now (maps .exit)) (now (cells .exit))
-        × Part A (now (bytes .entry)) (now (answers .entry)) (now (answers .exit)) r) × (r .bytes ≤ 4608 * r .files) ⌝ }
+        × Part A (now (bytes .entry)) (now (answers .entry)) (now (answers .exit)) r
+        × (now (growths .exit) ≡ growthsAfter A (r .files) (now (bytes .entry)) (now (growths .entry)))) × (r .bytes ≤ 4608 * r .files)
+        × (length (now (growths .exit)) ≡ length (now (growths .entry)))
+        × (drop (r .bytes) (now (bytes .entry)) ≡ afterFiles (r .files) (now (bytes .entry))) ⌝ }
 {
     let mut files: usize = 0;
     let mut at: usize = 0;
@@ -141,6 +173,8 @@ pub fn judge_part(
             &bytes[at..end],
             answers,
             3 * files,
+            growths,
+            files,
             counts,
             store,
             maps,
@@ -155,4 +189,40 @@ pub fn judge_part(
         bytes: at,
         more,
     }
+}
+
+// The same without sums.
+pub fn judge_part(
+    header: Header,
+    table: &TransitionTable,
+    bytes: &[u8],
+    answers: &mut [usize],
+    counts: &mut Counts,
+    store: &mut Store,
+    maps: &mut IndexMaps,
+    cells: &mut Cells,
+    hints: &mut Hints,
+) -> Judged
+    requires { ⌜ WithinLimits header ⌝ }
+    ensures { λ r. ⌜ (3 * r .files ≤ length (now (answers .exit))) × (length (now (answers .exit)) ≡ length (now (answers .entry)))
+        × (512 * r .files ≤ r .bytes) × (r .bytes ≤ length (now (bytes .entry)))
+        × (r .more ≡ true → Stopped (now (bytes .entry)) (now (answers .entry)) r)
+        × ((A : Automaton) → Headed A header (now (table .entry))
+        → CachedIn A (now (counts .entry)) (now (store .entry)) (now (maps .entry)) (now (cells .entry))
+        → CachedIn A (now (counts .exit)) (now (store .exit)) (now (maps .exit)) (now (cells .exit))
+        × Part A (now (bytes .entry)) (now (answers .entry)) (now (answers .exit)) r) × (r .bytes ≤ 4608 * r .files) ⌝ }
+{
+    let mut none = [0usize; 1];
+    weigh_part(
+        header,
+        table,
+        bytes,
+        answers,
+        &mut none[..0],
+        counts,
+        store,
+        maps,
+        cells,
+        hints,
+    )
 }

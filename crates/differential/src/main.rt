@@ -57,7 +57,7 @@ fn same(a: Verdict, b: Verdict) -> bool {
 
 // The engine's verdict.
 fn engine(automaton: &[u8], tree: &[u8]) -> Verdict {
-    match judging::judge(automaton, tree) {
+    match judging::accepts(automaton, tree) {
         Answer::Accepted => judged(true),
         Answer::Other => judged(false),
         Answer::Refused(refusal) => {

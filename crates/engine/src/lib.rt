@@ -5,6 +5,7 @@ use answers::Judgement;
 use block_writer::Written;
 use determinism::Singleness;
 use membership::Answer;
+use membership::Judged;
 use refusal::Check;
 use tally::Outcome;
 use tally::Tallied;
@@ -13,6 +14,7 @@ use watch::Watched;
 ghost use mathlib.Core.Path.{_≡_};
 ghost use Rattle.membership.specs.Judged.{judged};
 ghost use Rattle.membership.specs.Demand2.{Demand2};
+ghost use Rattle.membership.specs.Grown.{judgedWith, GrowthRight};
 ghost use Rattle.answers.specs.All as all-spec;
 ghost use Rattle.emptiness.specs.Surveyed.{answered, surveyed};
 ghost use Rattle.emptiness.specs.Checked.{checked};
@@ -36,21 +38,36 @@ ghost use Rattle.watch.specs.Promise as watch-spec;
 ghost use Rattle.logs.specs.Compare.{comparedOf, partOf, toldOf};
 ghost use Rattle.logs.specs.Promise as logs-spec;
 
-// Whether an automaton's file accepts a tree's file.
-pub fn judge(automaton: &[u8], tree: &[u8]) -> Answer
-    ensures equals { λ r. ⌜ r ≡ judged (now (automaton .entry)) (now (tree .entry)) ⌝ }
-    ensures right { λ r. ⌜ Demand2 (now (automaton .entry)) (now (tree .entry)) r ⌝ }
+// Whether an automaton's file accepts a tree's file, with the sum of the growths of closing over the tree's nodes.
+pub fn judge(automaton: &[u8], tree: &[u8]) -> Judged
+    ensures equals { λ r. ⌜ r ≡ judgedWith (now (automaton .entry)) (now (tree .entry)) ⌝ }
+    ensures right { λ r. ⌜ Demand2 (now (automaton .entry)) (now (tree .entry)) (r .answer) ⌝ }
+    ensures grown { λ r. ⌜ GrowthRight (now (automaton .entry)) (now (tree .entry)) r ⌝ }
 {
     judging::judge(automaton, tree)
 }
 
-// Judges trees' files, end to end, by an automaton's file: an answer of three numbers for each (0 accepted, 1 other, 2 refused; a refusal's number;
-// its place), as many as there is room for.
-pub fn judge_all(automaton: &[u8], trees: &[u8], numbers: &mut [usize]) -> Judgement
-    ensures equals { λ r. ⌜ all-spec.outcome r (now (numbers .exit)) ≡ all-spec.judgedAll (now (automaton .entry)) (now (trees .entry)) (now (numbers .entry)) ⌝ }
-    ensures right { λ r. ⌜ all-spec.Each (now (automaton .entry)) (now (trees .entry)) (all-spec.outcome r (now (numbers .exit))) ⌝ }
+// The same answer without the sum, which takes less time.
+pub fn accepts(automaton: &[u8], tree: &[u8]) -> Answer
+    ensures equals { λ r. ⌜ r ≡ judged (now (automaton .entry)) (now (tree .entry)) ⌝ }
+    ensures right { λ r. ⌜ Demand2 (now (automaton .entry)) (now (tree .entry)) r ⌝ }
 {
-    answers::judge_all(automaton, trees, numbers)
+    judging::accepts(automaton, tree)
+}
+
+// Judges trees' files, end to end, by an automaton's file: an answer of three numbers for each (0 accepted, 1 other, 2 refused; a refusal's number;
+// its place), as many as there is room for; and the sum of growths of each, as far as there is room for these.
+pub fn judge_all(
+    automaton: &[u8],
+    trees: &[u8],
+    numbers: &mut [usize],
+    growths: &mut [usize],
+) -> Judgement
+    ensures equals { λ r. ⌜ all-spec.outcome r (now (numbers .exit)) (now (growths .exit))
+        ≡ all-spec.judgedAll (now (automaton .entry)) (now (trees .entry)) (now (numbers .entry)) (now (growths .entry)) ⌝ }
+    ensures right { λ r. ⌜ all-spec.Each (now (automaton .entry)) (now (trees .entry)) (all-spec.outcome r (now (numbers .exit)) (now (growths .exit))) ⌝ }
+{
+    answers::judge_all(automaton, trees, numbers, growths)
 }
 
 // Looks for a tree that an automaton's file accepts: where one is found, a plan that builds it goes to the front of the buffer.

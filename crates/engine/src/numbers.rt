@@ -7,6 +7,7 @@ use emptiness::Quick;
 use emptiness::Survey;
 use logs::Compared;
 use membership::Answer;
+use membership::Judged;
 use tally::Tally;
 use watch::Watched;
 ghost use mathlib.Core.Path.{_≡_};
@@ -15,6 +16,7 @@ ghost use Rattle.membership.specs.Judged.{judged};
 ghost use Rattle.answers.specs.All as all-spec;
 ghost use Rattle.answers.specs.declared.Judgement.{Judgement};
 ghost use Rattle.membership.specs.Demand2.{Demand2};
+ghost use Rattle.membership.specs.Grown.{judgedWith, GrowthRight};
 ghost use Rattle.emptiness.specs.Surveyed.{answered, surveyed};
 ghost use Rattle.emptiness.specs.Checked.{checked};
 ghost use Rattle.emptiness.specs.Demand3.{Demand3, Demand3Quick};
@@ -37,34 +39,57 @@ ghost use Rattle.watch.specs.Promise as watch-spec;
 ghost use Rattle.agreement.specs.Common.{commonPart};
 ghost use Rattle.logs.specs.Compare.{comparedOf, partOf, toldOf};
 ghost use Rattle.logs.specs.Promise as logs-spec;
-ghost use Rattle.numbering.specs.Numbers.{answerNumber, answerTold, judgementNumber, judgementTold, surveyNumber, surveyTold, quickNumber, quickTold, singleNumber, singleTold, writtenNumber, writtenTold, watchNumber, watchTold, comparedNumber, comparedCounts, comparedTold, outcomeNumbered, tallyOf, tallyNumbers, checkNumber, checkTold, judgedTally};
+ghost use Rattle.numbering.specs.Numbers.{answerNumber, answerTold, growthNumbers, judgementNumber, judgementTold, surveyNumber, surveyTold, quickNumber, quickTold, singleNumber, singleTold, writtenNumber, writtenTold, watchNumber, watchTold, comparedNumber, comparedCounts, comparedTold, outcomeNumbered, tallyOf, tallyNumbers, checkNumber, checkTold, judgedTally};
 
-// Whether an automaton's file accepts a tree's file.
+// Whether an automaton's file accepts a tree's file, with the sum of growths.
 #[no_mangle]
-pub extern "C" fn engine_judge(automaton: &[u8], tree: &[u8], told: &mut [usize; 3]) -> u32
+pub extern "C" fn engine_judge(
+    automaton: &[u8],
+    tree: &[u8],
+    growth: &mut [usize; 1],
+    told: &mut [usize; 3],
+) -> u32
+    ensures equals { λ r. ⌜ (r ≡ answerNumber (judged (now (automaton .entry)) (now (tree .entry))))
+        × (now (growth .exit) ≡ growthNumbers (judgedWith (now (automaton .entry)) (now (tree .entry))))
+        × (now (told .exit) ≡ answerTold (judged (now (automaton .entry)) (now (tree .entry)))) ⌝ }
+    ensures right { λ r. ⌜ ((a : Judged) × (r ≡ answerNumber (a .answer)) × (now (growth .exit) ≡ growthNumbers a)
+        × (now (told .exit) ≡ answerTold (a .answer)) × Demand2 (now (automaton .entry)) (now (tree .entry)) (a .answer)
+        × GrowthRight (now (automaton .entry)) (now (tree .entry)) a) ⌝ }
+{
+    numbering::put_judged(crate::judge(automaton, tree), growth, told)
+}
+
+// The same answer without the sum.
+#[no_mangle]
+pub extern "C" fn engine_accepts(automaton: &[u8], tree: &[u8], told: &mut [usize; 3]) -> u32
     ensures equals { λ r. ⌜ (r ≡ answerNumber (judged (now (automaton .entry)) (now (tree .entry))))
         × (now (told .exit) ≡ answerTold (judged (now (automaton .entry)) (now (tree .entry)))) ⌝ }
     ensures right { λ r. ⌜ ((a : Answer) × (r ≡ answerNumber a) × (now (told .exit) ≡ answerTold a)
         × Demand2 (now (automaton .entry)) (now (tree .entry)) a) ⌝ }
 {
-    numbering::put_answer(crate::judge(automaton, tree), told)
+    numbering::put_answer(crate::accepts(automaton, tree), told)
 }
 
-// The answers to trees' files end to end, three numbers each.
+// The answers to trees' files end to end, three numbers each, and their sums of growths.
 #[no_mangle]
 pub extern "C" fn engine_judge_all(
     automaton: &[u8],
     trees: &[u8],
     answers: &mut [usize],
+    growths: &mut [usize],
     told: &mut [usize; 3],
 ) -> u32
-    ensures equals { λ r. ⌜ (r ≡ judgementNumber (all-spec.judgedAll (now (automaton .entry)) (now (trees .entry)) (now (answers .entry)) .judgement))
-        × (now (told .exit) ≡ judgementTold (all-spec.judgedAll (now (automaton .entry)) (now (trees .entry)) (now (answers .entry)) .judgement))
-        × (now (answers .exit) ≡ all-spec.judgedAll (now (automaton .entry)) (now (trees .entry)) (now (answers .entry)) .numbers) ⌝ }
+    ensures equals { λ r. ⌜ (r ≡ judgementNumber (all-spec.judgedAll (now (automaton .entry)) (now (trees .entry)) (now (answers .entry)) (now (growths .entry)) .judgement))
+        × (now (told .exit) ≡ judgementTold (all-spec.judgedAll (now (automaton .entry)) (now (trees .entry)) (now (answers .entry)) (now (growths .entry)) .judgement))
+        × (now (answers .exit) ≡ all-spec.judgedAll (now (automaton .entry)) (now (trees .entry)) (now (answers .entry)) (now (growths .entry)) .numbers)
+        × (now (growths .exit) ≡ all-spec.judgedAll (now (automaton .entry)) (now (trees .entry)) (now (answers .entry)) (now (growths .entry)) .growths) ⌝ }
     ensures right { λ r. ⌜ ((j : Judgement) × (r ≡ judgementNumber j) × (now (told .exit) ≡ judgementTold j)
-        × all-spec.Each (now (automaton .entry)) (now (trees .entry)) (all-spec.outcome j (now (answers .exit)))) ⌝ }
+        × all-spec.Each (now (automaton .entry)) (now (trees .entry)) (all-spec.outcome j (now (answers .exit)) (now (growths .exit)))) ⌝ }
 {
-    numbering::put_judgement(crate::judge_all(automaton, trees, answers), told)
+    numbering::put_judgement(
+        crate::judge_all(automaton, trees, answers, growths),
+        told,
+    )
 }
 
 // Looks for a tree that an automaton's file accepts; the plan goes to the front of the buffer.

@@ -10,8 +10,10 @@ use lib.ListN.{length, getD, set, length-set}
 use lib.Seq.{getD-set-same, getD-set-other}
 use Rattle.model.specs.Trees.{Tree}
 use Rattle.model.specs.declared.Side.{Side}
+use Rattle.model.specs.declared.Place.{Place}
 use Rattle.algorithms.specs.Automaton.{Automaton}
 use Rattle.algorithms.specs.Overloops.{accepts?}
+use Rattle.algorithms.specs.Growth.{growths}
 use Rattle.automaton.specs.File.{signatureIn}
 use Rattle.automaton.specs.declared.Header.{Header}
 use Rattle.blocks.specs.Blocks.{content}
@@ -22,12 +24,15 @@ use Rattle.tree.specs.File.{nodesOf, readTree}
 use Rattle.tree.specs.Unpacked.{Unpacked}
 use Rattle.tree.specs.declared.file.ParsedTree.{ParsedTree}
 use Rattle.overloops.specs.Ready.{Headed}
-use Rattle.membership.proofs.Laws.{judged-nodes}
+use Rattle.membership.specs.Grown.{growthBy}
+use Rattle.membership.proofs.Laws.{judged-nodes, growth-nodes}
+use Rattle.bottom_up.specs.Told.{Weighs}
+use Rattle.bottom_up.specs.declared.Weighed.{Weighed}
 use Rattle.class_tables.specs.Cache.{indices, CachedIn, Kept}
 use Rattle.class_tables.proofs.Empty.{all-zero, empty, kept-cache}
 use Rattle.passes.specs.Verdicts.{Tells}
 use Rattle.passes.specs.declared.Verdict.{Verdict}
-use Rattle.judging.specs.Verdicts.{Judges}
+use Rattle.judging.specs.Verdicts.{Judges, JudgesWith, ToldOf, JudgedOf}
 
 module _ (A : Automaton) (h : Header) (table : List ℕ) (k : Headed A h table) (s buffer : List ℕ) (n : ℕ) (u : Unpacked s n buffer) where
   told : (b : Bool) (t : Tree) → Writes (signatureIn h) (nodesOf n (content s)) t → accepts? A t ≡ b
@@ -41,6 +46,20 @@ module _ (A : Automaton) (h : Header) (table : List ℕ) (k : Headed A h table) 
   judges Verdict.Accepted x = let y = told true (x .0) (x .1) (x .2) in judged-nodes A h table k s n true (y .0) (y .1)
   judges Verdict.Other x = let y = told false (x .0) (x .1) (x .2) in judged-nodes A h table k s n false (y .0) (y .1)
   judges Verdict.Unknown x = tt
+
+  -- and so with the sum
+  grown : (g : ℕ) (t : Tree) → Writes (signatureIn h) (nodesOf n (content s)) t → g ≡ growths A Place.Root t → g ≡ growthBy A s
+  grown g t w e =
+      let passed = nodes-pass (signatureIn h) (nodesOf n (content s)) t .1 w in
+      growth-nodes A h table k s n g (u .reads (signatureIn h) (passed .0)) (e ∙ ap (growths A Place.Root) (sym (passed .1)))
+
+  weighs : (v : Verdict) (g : ℕ) → Weighs A (signatureIn h) (nodesOf n (content s)) v g → JudgesWith A s v g
+  weighs Verdict.Accepted g x = grown g (x .0) (x .1) (x .3)
+  weighs Verdict.Other g x = grown g (x .0) (x .1) (x .3)
+  weighs Verdict.Unknown g x = tt
+
+  pub judges-with : (sums : Bool) (r : Weighed) → ToldOf A (signatureIn h) (nodesOf n (content s)) sums r → JudgedOf A s sums r
+  judges-with sums r x = (judges (r .verdict) (x .0), λ e. weighs (r .verdict) (r .growth) (x .1 e))
 
 -- a number that the cache does not go by
 pub kept-set : (counts : List ℕ) (at v : ℕ) → 2 < at → Kept counts (set counts at v)

@@ -1,5 +1,5 @@
 -- Answers as numbers, for programs in other languages: of each the number that is answered, and the three numbers told with it.
--- Interface: `refusalTold`, `answerNumber`, `answerTold`, `surveyNumber`, `surveyTold`, `quickNumber`, `quickTold`, `singleNumber`, `singleTold`,
+-- Interface: `refusalTold`, `answerNumber`, `answerTold`, `growthNumbers`, `surveyNumber`, `surveyTold`, `quickNumber`, `quickTold`, `singleNumber`, `singleTold`,
 -- `judgementNumber`, `judgementTold`, `writtenNumber`, `writtenTold`, `watchNumber`, `watchTold`, `comparedNumber`, `comparedCounts`, `comparedTold`, `outcomeNumbered`, `tallyOf`,
 -- `tallyNumbers`, `checkNumber`, `checkTold`, `judgedTally`.
 use Prim.Native.Nat.{ℕ, zero, suc}
@@ -10,6 +10,7 @@ use Rattle.refusal.specs.declared.Refusal.{Refusal}
 use Rattle.block_writer.specs.declared.Written.{Written}
 use Rattle.determinism.specs.declared.Singleness.{Singleness}
 use Rattle.membership.specs.declared.Answer.{Answer}
+use Rattle.membership.specs.declared.Judged.{Judged}
 use Rattle.answers.specs.declared.Judgement.{Judgement}
 use Rattle.emptiness.specs.declared.Survey.{Survey}
 use Rattle.emptiness.specs.declared.Quick.{Quick}
@@ -36,6 +37,10 @@ abbrev pub answerTold : Answer → List ℕ
 answerTold Answer.Accepted = none
 answerTold Answer.Other = none
 answerTold (Answer.Refused r) = refusalTold r
+
+-- the sum that an answer comes with
+abbrev pub growthNumbers : Judged → List ℕ
+growthNumbers j = j .growth ∷ []
 
 -- judging many files: how many were judged
 abbrev pub judgementNumber : Judgement → ℕ

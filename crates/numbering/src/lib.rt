@@ -7,13 +7,14 @@ use emptiness::Quick;
 use emptiness::Survey;
 use logs::Compared;
 use membership::Answer;
+use membership::Judged;
 use refusal::Check;
 use refusal::Refusal;
 use tally::Outcome;
 use tally::Tally;
 use watch::Watched;
 ghost use mathlib.Core.Path.{_≡_};
-ghost use Rattle.numbering.specs.Numbers.{refusalTold, answerNumber, answerTold, judgementNumber, judgementTold, surveyNumber, surveyTold, quickNumber, quickTold, singleNumber, singleTold, writtenNumber, writtenTold, watchNumber, watchTold, comparedNumber, comparedCounts, comparedTold, outcomeNumbered, tallyNumbers, checkNumber, checkTold};
+ghost use Rattle.numbering.specs.Numbers.{refusalTold, answerNumber, answerTold, growthNumbers, judgementNumber, judgementTold, surveyNumber, surveyTold, quickNumber, quickTold, singleNumber, singleTold, writtenNumber, writtenTold, watchNumber, watchTold, comparedNumber, comparedCounts, comparedTold, outcomeNumbered, tallyNumbers, checkNumber, checkTold};
 
 fn put_refusal(refusal: Refusal, told: &mut [usize; 3])
     ensures { λ _. ⌜ now (told .exit) ≡ refusalTold refusal ⌝ }
@@ -38,6 +39,15 @@ pub fn put_answer(answer: Answer, told: &mut [usize; 3]) -> u32
             2
         }
     }
+}
+
+// The same, and the sum that the answer comes with.
+pub fn put_judged(judged: Judged, growth: &mut [usize; 1], told: &mut [usize; 3]) -> u32
+    ensures { λ r. ⌜ (r ≡ answerNumber (judged .answer)) × (now (growth .exit) ≡ growthNumbers judged) × (now (told .exit) ≡ answerTold (judged .answer)) ⌝ }
+{
+    *growth = [judged.growth as usize];
+    let answer = judged.answer;
+    put_answer(answer, told)
 }
 
 // 0 judged (files), 1 refused.

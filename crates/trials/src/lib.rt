@@ -58,7 +58,7 @@ fn same_bytes(a: &[u8], b: &[u8], n: usize) -> bool {
 
 // How judging answers: 0 other, 1 accepted, 3 refused.
 fn judged(file: &[u8], letter: &[u8]) -> usize {
-    match judging::judge(file, letter) {
+    match judging::accepts(file, letter) {
         Answer::Accepted => 1,
         Answer::Other => 0,
         Answer::Refused(_) => 3,

@@ -73,7 +73,7 @@ fn mix(bytes: &[u8]) -> u64 {
 }
 
 fn print_judged(automaton: &[u8], tree: &[u8]) {
-    match judging::judge(automaton, tree) {
+    match judging::accepts(automaton, tree) {
         Answer::Accepted => {
             io::write_all(1, b" accepted");
         }

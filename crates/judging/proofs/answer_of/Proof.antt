@@ -23,7 +23,7 @@ returns-2 : tie.Need-returns-2
 returns-2 c = λ A k h. rw (c .enum-told2 .given .1) at h
 
 returns-3 : tie.Need-returns-3
-returns-3 c = λ A k h. c .judge-file .ensures A k
+returns-3 c = λ A k h. c .judge-file .ensures A k .0
 
 pub answer-of-spec : {M : Type 1} → statement M
 answer-of-spec =

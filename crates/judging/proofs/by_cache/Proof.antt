@@ -1,6 +1,6 @@
 -- `judging::by_cache` meets its contract.
 -- Assumes nothing.
-use Rattle.judging.proofs.Laws.{judges}
+use Rattle.judging.proofs.Laws.{judges-with}
 use mathlib.Core.Path.{_≡_}
 use Prim.Native.Nat.{_+_, _-_}
 use native.Mathlib.Omega.{arith}
@@ -12,7 +12,7 @@ unpack-requires : tie.Need-unpack-requires
 unpack-requires c κs = search needs
 
 returns : tie.Need-returns
-returns c = search needs
+returns c = λ A k h. (h, (tt, λ e. tt))
 
 add-last : tie.Need-add-last
 add-last c = let few = c .before .unpack .ensures (omega (arith, c .if1 .left)) .few in search needs
@@ -30,7 +30,12 @@ judge-nodes-requires : tie.Need-judge-nodes-requires
 judge-nodes-requires c κs = let few = c .before .before .before .before .before .before .before .before .unpack .ensures (omega (arith, c .before .before .before .before .before .before .before .if1 .left)) .few in search needs
 
 returns-2 : tie.Need-returns-2
-returns-2 c = λ A k h. let u = c .before .before .before .before .before .before .before .before .before .unpack .ensures (omega (arith, c .before .before .before .before .before .before .before .before .if1 .left)) in let told = c .judge-nodes .ensures A k h in let same : 4 + c .before .before .before .before .before .before .before .before .before .unpack .result - 4 ≡ c .before .before .before .before .before .before .before .before .before .unpack .result = omega arith in (told .0, judges A _ _ k _ _ _ u (c .judge-nodes .result) (rw (same, u .nodes) at (told .1)))
+returns-2 c = λ A k h.
+    let n = c .before .before .before .before .before .before .before .before .before .unpack .result in
+    let u = c .before .before .before .before .before .before .before .before .before .unpack .ensures (omega (arith, c .before .before .before .before .before .before .before .before .if1 .left)) in
+    let told = c .judge-nodes .ensures A k h in
+    let same : 4 + n - 4 ≡ n = omega arith in
+    (told .0, judges-with A _ _ k _ _ _ u _ (c .judge-nodes .result) (rw (same, u .nodes) at (told .1)))
 
 pub by-cache-spec : {M : Type 1} → statement M
 by-cache-spec =

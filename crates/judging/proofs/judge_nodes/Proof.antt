@@ -11,14 +11,14 @@ blocks-of-requires c κs = search needs
 begin-requires : tie.Need-begin-requires
 begin-requires c κs = search needs
 
-judge-nodes-requires : tie.Need-judge-nodes-requires
-judge-nodes-requires c κs = search needs
+without-cache-requires : tie.Need-without-cache-requires
+without-cache-requires c κs = search needs
 
 returns : tie.Need-returns
-returns c = λ A k h. (kept-cache A _ _ _ _ _ (c .before .before .begin .ensures) h, c .judge-nodes .ensures A k)
+returns c = λ A k h. (kept-cache A _ _ _ _ _ (c .before .before .begin .ensures) h, c .without-cache .ensures A k)
 
-judge-nodes-requires-2 : tie.Need-judge-nodes-requires-2
-judge-nodes-requires-2 c κs = search needs
+judge-nodes-requires : tie.Need-judge-nodes-requires
+judge-nodes-requires c κs = search needs
 
 enum-told : tie.Need-enum-told
 enum-told c = search needs
@@ -47,23 +47,25 @@ end-requires-3 c κs = search needs
 renew-requires : tie.Need-renew-requires
 renew-requires c κs = search needs
 
-judge-nodes-requires-3 : tie.Need-judge-nodes-requires-3
-judge-nodes-requires-3 c κs = search needs
+without-cache-requires-2 : tie.Need-without-cache-requires-2
+without-cache-requires-2 c κs = search needs
 
 returns-2 : tie.Need-returns-2
 returns-2 c = λ A k h.
-    let told = c .before .before .before .before .before .judge-nodes2 .ensures A k (kept-cache A _ _ _ _ _ (c .before .before .before .before .before .before .before .before .before .before .before .before .begin .ensures) h) in
-    (kept-cache A _ _ _ _ _ (c .end .ensures) (told .0), rw (c .before .before .before .enum-told .given .1) at (told .1))
+    let told = c .before .before .before .before .before .judge-nodes .ensures A k (kept-cache A _ _ _ _ _ (c .before .before .before .before .before .before .before .before .before .before .before .before .begin .ensures) h) in
+    let weighs = rw (c .before .before .before .enum-told .given .1) at (told .1) in
+    (kept-cache A _ _ _ _ _ (c .end .ensures) (told .0), ((weighs .0, weighs .1, weighs .2), λ e. weighs))
 
 returns-3 : tie.Need-returns-3
 returns-3 c = λ A k h.
-    let told = c .before .before .before .before .before .judge-nodes2 .ensures A k (kept-cache A _ _ _ _ _ (c .before .before .before .before .before .before .before .before .before .before .before .before .begin .ensures) h) in
-    (kept-cache A _ _ _ _ _ (c .end2 .ensures) (told .0), rw (c .before .before .before .enum-told2 .given .1) at (told .1))
+    let told = c .before .before .before .before .before .judge-nodes .ensures A k (kept-cache A _ _ _ _ _ (c .before .before .before .before .before .before .before .before .before .before .before .before .begin .ensures) h) in
+    let weighs = rw (c .before .before .before .enum-told2 .given .1) at (told .1) in
+    (kept-cache A _ _ _ _ _ (c .end2 .ensures) (told .0), ((weighs .0, weighs .1, weighs .2), λ e. weighs))
 
 returns-4 : tie.Need-returns-4
 returns-4 c = λ A k h.
-    let told = c .before .before .before .before .before .before .before .before .before .judge-nodes2 .ensures A k (kept-cache A _ _ _ _ _ (c .before .before .before .before .before .before .before .before .before .before .before .before .before .before .before .before .begin .ensures) h) in
-    (c .before .renew .ensures A _ (kept-cache A _ _ _ _ _ (c .before .before .before .before .before .end3 .ensures) (told .0)), c .judge-nodes3 .ensures A k)
+    let told = c .before .before .before .before .before .before .before .before .before .judge-nodes .ensures A k (kept-cache A _ _ _ _ _ (c .before .before .before .before .before .before .before .before .before .before .before .before .before .before .before .before .begin .ensures) h) in
+    (c .before .renew .ensures A _ (kept-cache A _ _ _ _ _ (c .before .before .before .before .before .end3 .ensures) (told .0)), c .without-cache2 .ensures A k)
 
 pub judge-nodes-spec : {M : Type 1} → statement M
 judge-nodes-spec =
@@ -71,9 +73,9 @@ judge-nodes-spec =
     (tie.spec
     blocks-of-requires
     begin-requires
-    judge-nodes-requires
+    without-cache-requires
     returns
-    judge-nodes-requires-2
+    judge-nodes-requires
     enum-told
     gain-requires
     end-requires
@@ -83,7 +85,7 @@ judge-nodes-spec =
     enum-told-3
     end-requires-3
     renew-requires
-    judge-nodes-requires-3
+    without-cache-requires-2
     returns-2
     returns-3
     returns-4)

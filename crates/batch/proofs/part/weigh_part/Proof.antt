@@ -1,4 +1,4 @@
--- `batch::part::judge_part` meets its contract. The invariant: the files so far are judged, and their answers written.
+-- `batch::part::weigh_part` meets its contract. The invariant: the files so far are judged, and their answers written.
 -- Assumes nothing.
 use Prim.Native.Nat.{ℕ, _+_, _-_, _*_, _≤_}
 use native.Mathlib.Omega.{arith}
@@ -14,8 +14,8 @@ use Rattle.batch.specs.Answers.{Part}
 use Rattle.batch.proofs.Parts.{begun, onward}
 use Rattle.batch.proofs.Pieces.{most-bytes}
 use borrow.Author.Needs.{needs}
-use Rattle.batch.proofs.part.judge_part.Statement.{statement}
-use Rattle.batch.proofs.part.judge_part.Tie as tie
+use Rattle.batch.proofs.part.weigh_part.Statement.{statement}
+use Rattle.batch.proofs.part.weigh_part.Tie as tie
 
 -- a part from a place on
 part-is : (at n : ℕ) → at + n - at ≡ n
@@ -106,8 +106,8 @@ same-length-3 c = search needs
 returns-3 : tie.Need-returns-3 Inv-loop μ-loop
 returns-3 c = let v = c .before .loop .inv in (v .0, v .1, v .2, v .3, (λ e. clash (cc (c .loop-test .left))), v .4, v .5)
 
-pub judge-part-spec : {M : Type 1} → statement M
-judge-part-spec =
+pub weigh-part-spec : {M : Type 1} → statement M
+weigh-part-spec =
     tie.close
     (tie.spec
     Inv-loop
