@@ -1,12 +1,12 @@
--- The answer to each file is what judging answers of that file alone.
+-- The answer to each file is what judging answers of that file alone, and so is its sum.
 -- Assumes nothing.
 use Prim.Native.Nat.{ℕ, zero, suc, _*_, _/_, _<_}
 use native.Mathlib.Omega.{arith}
 use mathlib.Core.Path.{_≡_, refl, ap, _∙_}
 use mathlib.Core.Bool.{Bool, true, false}
-use mathlib.Core.List.{List, _∷_, _++_}
+use mathlib.Core.List.{List, [], _∷_, _++_}
 use lib.Dec.{eqb}
-use lib.ListN.{length, take, drop, length-take}
+use lib.ListN.{length, getD, take, drop, length-take}
 use Rattle.blocks.specs.Blocks.{content}
 use Rattle.refusal.specs.declared.Refusal.{Refusal}
 use Rattle.algorithms.specs.Automaton.{Automaton}
@@ -15,9 +15,10 @@ use Rattle.automaton.specs.declared.Header.{Header}
 use Rattle.automaton.specs.declared.file.Parsed.{Parsed}
 use Rattle.transitions.specs.Transitions.{automatonOf}
 use Rattle.membership.specs.Judged.{judgedBy, judged}
+use Rattle.membership.specs.Grown.{growthBy, growthJudged}
 use Rattle.membership.specs.declared.Answer.{Answer}
 use Rattle.batch.specs.Batch.{restOf}
-use Rattle.batch.specs.Answers.{answersBy, firstAnswer, lastAnswer, answersOf, answerNumbers, allNumbers}
+use Rattle.batch.specs.Answers.{answersBy, firstAnswer, lastAnswer, answersOf, answerNumbers, allNumbers, growthsAfter}
 use Rattle.batch.proofs.Answering.{answers-next}
 use Rattle.answers.specs.All.{answered, judgedAll, fileIn, Each}
 use Rattle.answers.specs.declared.Judgement.{Judgement}
@@ -72,27 +73,38 @@ numbers-at (there {l} {k} {a} {b} p) x =
     let three : 3 * suc k ≡ suc (suc (suc (3 * k))) = omega arith in
     rw three (ap (take 3) (past b l x (3 * k)) ∙ numbers-at p x)
 
+-- the sum of a file stands at its place
+sum-at : (A : Automaton) (n : ℕ) (s lent : List ℕ) (k : ℕ) → k < n → k < length (growthsAfter A n s lent) → getD (growthsAfter A n s lent) k 0 ≡ growthBy A (fileIn k s)
+unfolding growthsAfter fileIn
+sum-at A zero s lent k l room = absurd (omega arith)
+sum-at A (suc n) s [] k l room = absurd (omega arith)
+sum-at A (suc n) s (x ∷ lent) zero l room = refl
+sum-at A (suc n) s (x ∷ lent) (suc k) l room = sum-at A n (restOf s) lent k (omega arith) (omega arith)
+
 -- ---- over an automaton's file
 
 abbrev count : Judgement → ℕ
 count (Judgement.Files n) = suc n
 count (Judgement.Refused x) = 0
 
-each-read : (w s lent : List ℕ) (h : Header) → parsed w ≡ Parsed.Read h → Each w s (judgedAll w s lent)
-unfolding judgedAll judged answered
-each-read w s lent h e = rw e (λ n f k l.
+each-read : (w s lent g : List ℕ) (h : Header) → parsed w ≡ Parsed.Read h → Each w s (judgedAll w s lent g)
+unfolding judgedAll judged growthJudged answered
+each-read w s lent g h e = rw e (λ n f k l.
     let few = length-take (length lent / 3) (answersOf (automatonOf h (content w)) s) in
     let size : suc (length (take (length lent / 3) (answersOf (automatonOf h (content w)) s))) ≡ suc n = ap count f in
-    numbers-at (within (answer-at k (automatonOf h (content w)) s (omega (arith, few, size))) (length lent / 3) (omega (arith, few, size))) _)
+    (
+      numbers-at (within (answer-at k (automatonOf h (content w)) s (omega (arith, few, size))) (length lent / 3) (omega (arith, few, size))) _,
+      λ room. sum-at (automatonOf h (content w)) (length (take (length lent / 3) (answersOf (automatonOf h (content w)) s))) s g k (omega (arith, size)) room,
+    ))
 
-each-refused : (w s lent : List ℕ) (x : Refusal) → parsed w ≡ Parsed.Refused x → Each w s (judgedAll w s lent)
+each-refused : (w s lent g : List ℕ) (x : Refusal) → parsed w ≡ Parsed.Refused x → Each w s (judgedAll w s lent g)
 unfolding judgedAll
-each-refused w s lent x e = rw e (λ n f k l. absurd (omega (arith, ap count f)))
+each-refused w s lent g x e = rw e (λ n f k l. absurd (omega (arith, ap count f)))
 
--- EVERY ANSWER is what judging answers of its file alone
-pub each : (w s lent : List ℕ) → Each w s (judgedAll w s lent)
-each w s lent = by (parsed w) refl
+-- EVERY ANSWER is what judging answers of its file alone, and so is every sum
+pub each : (w s lent g : List ℕ) → Each w s (judgedAll w s lent g)
+each w s lent g = by (parsed w) refl
   where
-    by : (r : Parsed) → parsed w ≡ r → Each w s (judgedAll w s lent)
-    by (Parsed.Read h) e = each-read w s lent h e
-    by (Parsed.Refused x) e = each-refused w s lent x e
+    by : (r : Parsed) → parsed w ≡ r → Each w s (judgedAll w s lent g)
+    by (Parsed.Read h) e = each-read w s lent g h e
+    by (Parsed.Refused x) e = each-refused w s lent g x e

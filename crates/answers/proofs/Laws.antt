@@ -7,7 +7,7 @@ use mathlib.Core.Bool.{Bool, true, false}
 use mathlib.Core.Logic.{inl, inr}
 use mathlib.Core.List.{List, [], _∷_, _++_, append-nil}
 use borrow.Author.Tests.{eq-eqb, ne-eqb, lt-ltb}
-use lib.ListN.{length, take, drop, length-append}
+use lib.ListN.{length, set, take, drop, length-append}
 use lib.Seq.{sets, take-all, take-at}
 use Rattle.algorithms.specs.Automaton.{Automaton}
 use Rattle.blocks.specs.Blocks.{content}
@@ -17,12 +17,14 @@ use Rattle.automaton.specs.declared.Header.{Header}
 use Rattle.automaton.specs.declared.file.Parsed.{Parsed}
 use Rattle.transitions.specs.Transitions.{automatonOf}
 use Rattle.membership.specs.Judged.{judgedBy}
+use Rattle.membership.specs.Grown.{growthBy}
 use Rattle.membership.specs.declared.Answer.{Answer}
 use Rattle.batch.specs.Batch.{firstLength}
-use Rattle.batch.specs.Answers.{answersOf, answerNumbers, allNumbers, laterIf, Part, Stopped}
+use Rattle.batch.specs.Answers.{answersOf, answerNumbers, allNumbers, afterFiles, growthsAfter, laterIf, Part, Stopped}
 use Rattle.batch.specs.declared.part.Judged.{Judged}
 use Rattle.batch.proofs.Answering.{answers-next}
 use Rattle.batch.proofs.Parts.{put-more}
+use Rattle.batch.proofs.Sums.{sum-more}
 use Rattle.answers.specs.All.{answered, numbersAfter, outcome, judgedAll}
 use Rattle.answers.specs.declared.Judgement.{Judgement}
 
@@ -87,14 +89,20 @@ module _ (A : Automaton) (s lent lent′ : List ℕ) (r : Judged) (p : Part A s 
       short (inl l) = l
       short (inr l) = absurd (omega arith)
 
+-- the sum of what is left, less than a file
+pub last-sum : (A : Automaton) (n at : ℕ) (s lent before after x : List ℕ) → before ≡ growthsAfter A n s lent → drop at s ≡ afterFiles n s → x ≡ drop at s
+    → length x < firstLength x → after ≡ set before n (growthBy A x) → after ≡ growthsAfter A (n + 1) s lent
+last-sum A n at s lent before after x b d e short put =
+    sum-more A n at (firstLength x) s lent before after x b d (ap firstLength e) (sym (take-all (firstLength x) x (omega arith)) ∙ ap (take (firstLength x)) e) put
+
 -- ---- over an automaton's file
 
-pub all-refused : (w s lent : List ℕ) (x : Refusal) → parsed w ≡ Parsed.Refused x → outcome (Judgement.Refused x) lent ≡ judgedAll w s lent
+pub all-refused : (w s lent g : List ℕ) (x : Refusal) → parsed w ≡ Parsed.Refused x → outcome (Judgement.Refused x) lent g ≡ judgedAll w s lent g
 unfolding judgedAll
-all-refused w s lent x e = rw e refl
+all-refused w s lent g x e = rw e refl
 
-pub all-read : (w s lent : List ℕ) (h : Header) → parsed w ≡ Parsed.Read h → (n : ℕ) (after : List ℕ)
+pub all-read : (w s lent g : List ℕ) (h : Header) → parsed w ≡ Parsed.Read h → (n : ℕ) (after sums : List ℕ)
     → n ≡ length (answered (automatonOf h (content w)) s lent) → after ≡ numbersAfter (answered (automatonOf h (content w)) s lent) lent
-    → outcome (Judgement.Files n) after ≡ judgedAll w s lent
+    → sums ≡ growthsAfter (automatonOf h (content w)) n s g → outcome (Judgement.Files n) after sums ≡ judgedAll w s lent g
 unfolding judgedAll
-all-read w s lent h e n after f g = rw (e, f, g) refl
+all-read w s lent g h e n after sums f a b = rw (e, b, a, f) refl

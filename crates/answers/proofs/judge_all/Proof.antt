@@ -20,13 +20,13 @@ use Rattle.answers.proofs.judge_all.Statement.{statement}
 use Rattle.answers.proofs.judge_all.Tie as tie
 
 -- what is equal to the definition's answers is right, file by file
-both : (w s lent : List ℕ) (o : Outcome) → o ≡ judgedAll w s lent → (o ≡ judgedAll w s lent) × Each w s o
-both w s lent o e = (e, rw e (each w s lent))
+both : (w s lent g : List ℕ) (o : Outcome) → o ≡ judgedAll w s lent g → (o ≡ judgedAll w s lent g) × Each w s o
+both w s lent g o e = (e, rw e (each w s lent g))
 
 -- the automaton's file reads
 module _ (c : tie.After-known-told2) where
   abbrev w : List ℕ
-  w = c .before .before .before .before .before .before .before .before .args .automaton .now
+  w = c .before .before .before .before .before .before .before .before .before .args .automaton .now
 
   abbrev h : Header
   h = c .before .header .given .0 .0
@@ -47,16 +47,22 @@ enum-known-header : tie.Need-enum-known-header
 enum-known-header c = search needs
 
 judge-files-requires : tie.Need-judge-files-requires
-judge-files-requires c κs = let told = c .before .before in file-limits (w told) (h told) (read told)
+judge-files-requires c κs = let told = c .before .before .before in file-limits (w told) (h told) (read told)
 
 returns : tie.Need-returns
-returns c = both _ _ _ _ (all-refused _ _ _ _ (sym (c .before .before .before .load .ensures .0) ∙ c .before .refusal .given .1))
+returns c = both _ _ _ _ _ (all-refused _ _ _ _ _ (sym (c .before .before .before .load .ensures .0) ∙ c .before .refusal .given .1))
 
 same-length : tie.Need-same-length
 same-length c = search needs
 
+same-length-2 : tie.Need-same-length-2
+same-length-2 c = search needs
+
 returns-2 : tie.Need-returns-2
-returns-2 c = let told = c .before .before .before .before .before in let e = c .before .before .judge-files .ensures _ (headed told) in both _ _ _ _ (all-read _ _ _ _ (read told) _ _ (e .0) (e .1))
+returns-2 c =
+    let told = c .before .before .before .before .before .before .before .before in
+    let e = c .before .before .before .before .judge-files .ensures _ (headed told) in
+    both _ _ _ _ _ (all-read _ _ _ _ _ (read told) _ _ _ (e .0) (e .1) (e .2))
 
 pub judge-all-spec : {M : Type 1} → statement M
 judge-all-spec =
@@ -68,4 +74,5 @@ judge-all-spec =
     judge-files-requires
     returns
     same-length
+    same-length-2
     returns-2)
