@@ -6,7 +6,7 @@ import os, shutil, subprocess, tempfile, unittest
 HERE = os.path.dirname(os.path.abspath(__file__))
 ROOT = os.path.join(HERE, '..')
 COPIED = ['tools', 'samples', 'crates/cases', 'crates/report_cases', 'crates/witness_cases', 'crates/canonical_cases', 'crates/markup_cases',
-          'crates/watch_cases', 'crates/logs_cases', 'crates/example', 'crates/convert', 'crates/compose', 'crates/trace']
+          'crates/watch_cases', 'crates/logs_cases', 'crates/growth_cases', 'crates/example', 'crates/convert', 'crates/compose', 'crates/trace']
 
 
 class Check(unittest.TestCase):
@@ -38,7 +38,7 @@ class Check(unittest.TestCase):
     def test_differences(self):
         changed = ['crates/cases/stdin', 'crates/cases/stdout', 'crates/report_cases/stdout', 'crates/report_cases/data/07.letters',
                    'crates/report_cases/data/38.walker', 'crates/witness_cases/stdin', 'crates/canonical_cases/stdout', 'crates/markup_cases/stdin',
-                   'crates/watch_cases/stdout', 'crates/logs_cases/stdout', 'crates/convert/stdout', 'crates/compose/stdout', 'crates/trace/stdin', 'docs/walk.svg',
+                   'crates/watch_cases/stdout', 'crates/logs_cases/stdout', 'crates/growth_cases/stdout', 'crates/convert/stdout', 'crates/compose/stdout', 'crates/trace/stdin', 'docs/walk.svg',
                    'samples/annex/walker.blk', 'samples/example/letters.blk']
         for name in changed:
             self.change(name)
@@ -49,7 +49,7 @@ class Check(unittest.TestCase):
         for name in changed + ['11.walker', 'more.walker']:
             self.assertIn(name, said)
         # the stored letter of `example` is the first of the one sample's, and the walker of `convert`, of `compose` and of `trace` the other's
-        self.assertEqual(said.count('FAILED'), 18)
+        self.assertEqual(said.count('FAILED'), 19)
 
     def test_maker_fails(self):
         with open(self.path('tools/make_cases.py'), 'a') as file:

@@ -6,7 +6,6 @@ use crate::counts::COUNTS;
 use crate::told::Told;
 use crate::told::judged;
 use crate::told::refused;
-use automaton::file::Parsed;
 use damaged::Damaged;
 use generated::families;
 use membership::Answer;
@@ -31,24 +30,29 @@ const FIRST: usize = 200000;
 
 // ---- the engine
 
-// What the engine says.
-fn engine(automaton: &[u8], tree: &[u8]) -> Judged {
-    let mut table = [0u32; 9216];
-    match transitions::load(automaton, &mut table) {
-        Parsed::Refused(refusal) => {
-            Judged {
-                answer: Answer::Refused(refusal),
-                growth: 0,
-            }
-        }
-        Parsed::Read(header) => membership::judge_file(header, &table, tree),
-    }
+// The sum by the cache, of a batch of one file.
+fn cached(automaton: &[u8], tree: &[u8]) -> usize {
+    let mut numbers = [0usize; 3];
+    let mut growths = [0usize; 1];
+    answers::judge_all(automaton, tree, &mut numbers, &mut growths);
+    growths[0]
 }
 
-// The same as numbers.
-fn in_numbers(found: Judged) -> Told {
+// A sum that both ways tell; else a number that is no sum.
+fn agreed(sum: usize, other: usize) -> usize {
+    if sum == other { sum } else { 99999999 }
+}
+
+// What the engine says, by the overloops of all parts and by the cache.
+fn engine(automaton: &[u8], tree: &[u8]) -> Told {
+    let found = judging::judge(automaton, tree);
+    in_numbers(found, cached(automaton, tree))
+}
+
+// An answer as numbers.
+fn in_numbers(found: Judged, other: usize) -> Told {
     let answer = found.answer;
-    let sum = found.growth as usize;
+    let sum = agreed(found.growth as usize, other);
     match answer {
         Answer::Accepted => judged(true, sum),
         Answer::Other => judged(false, sum),
@@ -114,10 +118,10 @@ fn compare(
     let first = watch_faults::automaton_file(random, a, rules, &mut automaton, faults);
     let second = watch_faults::tree_file(random, a, nodes, size, &mut tree, faults);
     let expected = expected_of(a, rules, nodes, size, first, second);
-    let found = in_numbers(engine(
+    let found = engine(
         files::front(&automaton, first.length),
         files::front(&tree, second.length),
-    ));
+    );
     counts::count_size(counts, size, expected.kind);
     counts::tally(counts, pair, pair / PAIRS, expected, found);
 }
