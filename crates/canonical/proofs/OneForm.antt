@@ -30,6 +30,7 @@ use Rattle.algorithms.specs.Automaton.{Automaton}
 use Rattle.determinism.specs.Single.{single, singleIf, singleOf}
 use Rattle.determinism.proofs.RepeatedRecords.{same-single, same-answer}
 use Rattle.membership.specs.Judged.{judgedBy, judged}
+use Rattle.membership.specs.Grown.{growthBy, growthJudged}
 use Rattle.membership.specs.declared.Answer.{Answer}
 use Rattle.emptiness.specs.Surveyed.{answered, surveyedBy, surveyed}
 use Rattle.emptiness.specs.Checked.{checkedBy, checked}
@@ -183,6 +184,11 @@ module _ (s out : List ℕ) (n : ℕ) (told : canonicalOf s out .answer ≡ Writ
   pub same-judged : (tree : List ℕ) → judged file tree ≡ judged s tree
   unfolding judged
   same-judged tree = same-answers Answer.Refused (λ A. judgedBy A tree)
+
+  -- and each letter its sum of growths
+  pub same-growth : (tree : List ℕ) → growthJudged file tree ≡ growthJudged s tree
+  unfolding growthJudged
+  same-growth tree = same-answers (λ r. 0) (λ A. growthBy A tree)
 
   -- the survey, with what it leaves in the plan buffer; the quick check; and single
   pub same-survey : (buffer : List ℕ) → surveyed file buffer ≡ surveyed s buffer
