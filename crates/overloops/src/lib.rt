@@ -72,8 +72,24 @@ fn simple_in(
         )
 }
 
-// The loops of a node at a place: that table, closed; and how many pairs that added.
+// The loops of a node at a place: that table, closed.
 fn loops_in(
+    table: &TransitionTable,
+    states: usize,
+    symbol: Symbol,
+    place: Place,
+    left: &[u32; 24],
+    right: &[u32; 24],
+) -> Relation
+    requires { ⌜ (states ≤ 24) × (symbol .0 < 32) ⌝ }
+    ensures { λ r. ⌜ ((A : Automaton) → Tabled A states (now (table .entry))
+        → r .rows ≡ spec.nodeLoops A place (symbol .0) (now (left .entry)) (now (right .entry))) ⌝ }
+{
+    simple_in(table, symbol, place, left, right).closure(states)
+}
+
+// The same with how many pairs closing added.
+fn close_in(
     table: &TransitionTable,
     states: usize,
     symbol: Symbol,
@@ -110,7 +126,7 @@ pub fn part_in(
         × (r .growth ≡ nodeGrowth A (Place.Child side) (symbol .0) (now (left .entry)) (now (right .entry)))) × (r .growth ≤ 768) ⌝ }
 {
     let place = Place::Child(side);
-    let loops = loops_in(table, states, symbol, place, left, right);
+    let loops = close_in(table, states, symbol, place, left, right);
     Part {
         overloops: loops.relation.follow(moves_in(table, symbol, place, Move::Up)),
         growth: loops.growth,
@@ -131,10 +147,10 @@ pub fn close_node(
         → (r .relation .rows ≡ spec.nodeLoops A place (symbol .0) (left .rows) (right .rows))
         × (r .growth ≡ nodeGrowth A place (symbol .0) (left .rows) (right .rows))) × (r .growth ≤ 768) ⌝ }
 {
-    loops_in(table, states, symbol, place, &left.rows, &right.rows)
+    close_in(table, states, symbol, place, &left.rows, &right.rows)
 }
 
-// The loops alone.
+// The loops without the growth, which takes less time.
 pub fn node_loops(
     table: &TransitionTable,
     states: usize,
@@ -147,8 +163,7 @@ pub fn node_loops(
     ensures { λ r. ⌜ ((A : Automaton) → Tabled A states (now (table .entry))
         → r .rows ≡ spec.nodeLoops A place (symbol .0) (left .rows) (right .rows)) ⌝ }
 {
-    let closed = close_node(table, states, symbol, place, left, right);
-    closed.relation
+    loops_in(table, states, symbol, place, &left.rows, &right.rows)
 }
 
 // The overloops of a node as a part of its parent, from those of its own parts.
@@ -164,8 +179,13 @@ pub fn node_overloops(
     ensures { λ r. ⌜ ((A : Automaton) → Tabled A states (now (table .entry))
         → r .rows ≡ spec.nodeOverloops A (Place.Child side) (symbol .0) (left .rows) (right .rows)) ⌝ }
 {
-    let part = part_in(table, states, symbol, side, &left.rows, &right.rows);
-    part.overloops
+    let place = Place::Child(side);
+    loops_in(table, states, symbol, place, &left.rows, &right.rows).follow(moves_in(
+        table,
+        symbol,
+        place,
+        Move::Up,
+    ))
 }
 
 // The loops of a leaf at a place, and the growth of closing there: a node whose parts have no overloops.
@@ -184,13 +204,19 @@ pub fn close_leaf(table: &TransitionTable, states: usize, symbol: Symbol, place:
     )
 }
 
-// The loops alone.
+// The loops of a leaf without the growth.
 pub fn leaf_loops(table: &TransitionTable, states: usize, symbol: Symbol, place: Place) -> Relation
     requires { ⌜ (states ≤ 24) × (symbol .0 < 32) ⌝ }
     ensures { λ r. ⌜ ((A : Automaton) → Tabled A states (now (table .entry)) → r .rows ≡ spec.leafLoops A place (symbol .0)) ⌝ }
 {
-    let closed = close_leaf(table, states, symbol, place);
-    closed.relation
+    node_loops(
+        table,
+        states,
+        symbol,
+        place,
+        Relation::empty(),
+        Relation::empty(),
+    )
 }
 
 // A leaf as a part of its parent.
@@ -245,8 +271,9 @@ fn put_leaf(table: &TransitionTable, states: usize, symbol: Symbol, side: Side, 
     ensures { λ _. ⌜ ((A : Automaton) → Tabled A states (now (table .entry))
         → Put (leafCell (symbol .0) side) (spec.leafOverloops A (Place.Child side) (symbol .0)) (now (leaves .entry)) (now (leaves .exit))) ⌝ }
 {
-    let part = leaf_part(table, states, symbol, side);
-    put_rows(leaves, leaf_cell(symbol, side), part.overloops);
+    let none = Relation::empty();
+    let rows = node_overloops(table, states, symbol, side, none, none);
+    put_rows(leaves, leaf_cell(symbol, side), rows);
 }
 
 // Fills the table of leaves.

@@ -1,7 +1,7 @@
 -- `overloops::loops_in` meets its contract.
 -- Assumes nothing.
 use borrow.Author.Needs.{needs}
-use Rattle.overloops.proofs.Laws.{loops-formed, growth-formed}
+use Rattle.overloops.proofs.Laws.{loops-formed}
 use Rattle.overloops.proofs.loops_in.Statement.{statement}
 use Rattle.overloops.proofs.loops_in.Tie as tie
 
@@ -11,9 +11,4 @@ loops-in-spec =
     (tie.spec
     (λ c κs. search needs)
     (λ c κs. search needs)
-    (λ c. (
-      λ A k.
-          let given = c .before .simple-in .ensures A (k .compiled) in
-          (loops-formed A _ _ _ _ _ (k .states) given (c .close .ensures .0), growth-formed A _ _ _ _ _ (k .states) given (c .close .ensures .1)),
-      c .close .ensures .2,
-    )))
+    (λ c. λ A k. loops-formed A _ _ _ _ _ (k .states) (c .before .simple-in .ensures A (k .compiled)) (c .closure .ensures)))

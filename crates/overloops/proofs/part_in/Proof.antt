@@ -14,7 +14,7 @@ part-in-spec =
     (λ c κs. search needs)
     (λ c. (
       λ A k.
-          let loops = c .before .before .before .loops-in .ensures .0 A k in
+          let loops = c .before .before .before .close-in .ensures .0 A k in
           (overloops-formed A _ _ _ _ (loops .0) (c .before .moves-in .ensures .1 A (k .compiled)) (c .follow .ensures), loops .1),
-      c .before .before .before .loops-in .ensures .1,
+      c .before .before .before .close-in .ensures .1,
     )))

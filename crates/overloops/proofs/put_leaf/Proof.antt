@@ -1,6 +1,7 @@
--- `overloops::put_leaf` meets its contract: the rows of a leaf go to its place.
+-- `overloops::put_leaf` meets its contract: the rows of a node without parts go to the leaf's place.
 -- Assumes nothing.
 use borrow.Author.Needs.{needs}
+use Rattle.overloops.proofs.Laws.{leaf-formed}
 use Rattle.overloops.proofs.put_leaf.Statement.{statement}
 use Rattle.overloops.proofs.put_leaf.Tie as tie
 
@@ -11,7 +12,8 @@ put-leaf-spec =
     (λ c κs. search needs)
     (λ c κs. search needs)
     (λ c κs. search needs)
+    (λ c κs. search needs)
     (λ c. search needs)
     (λ c. λ A k.
-    let part = c .before .before .before .before .before .leaf-part .ensures .0 A k in
-    rw (c .before .before .before .leaf-cell .ensures .0, part .0) at (c .before .before .put-rows .ensures)))
+    let rows = leaf-formed A (k .proper) _ _ (c .before .before .before .before .before .before .empty .ensures) (c .before .before .before .before .before .before .empty .ensures) (c .before .before .before .before .before .node-overloops .ensures A k) in
+    rw (c .before .before .before .leaf-cell .ensures .0, rows) at (c .before .before .put-rows .ensures)))
