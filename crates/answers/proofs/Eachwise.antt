@@ -91,8 +91,7 @@ each-read : (w s lent g : List ℕ) (h : Header) → parsed w ≡ Parsed.Read h 
 unfolding judgedAll judged growthJudged answered
 each-read w s lent g h e = rw e (λ n f k l.
     let few = length-take (length lent / 3) (answersOf (automatonOf h (content w)) s) in
-    let size : suc (length (take (length lent / 3) (answersOf (automatonOf h (content w)) s))) ≡ suc n = ap count f in
-    (
+    let size : suc (length (take (length lent / 3) (answersOf (automatonOf h (content w)) s))) ≡ suc n = ap count f in (
       numbers-at (within (answer-at k (automatonOf h (content w)) s (omega (arith, few, size))) (length lent / 3) (omega (arith, few, size))) _,
       λ room. sum-at (automatonOf h (content w)) (length (take (length lent / 3) (answersOf (automatonOf h (content w)) s))) s g k (omega (arith, size)) room,
     ))

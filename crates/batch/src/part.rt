@@ -101,17 +101,7 @@ pub fn judge_one(
         × (now (growths .exit) ≡ set (now (growths .entry)) place (growthBy A (now (file .entry))))) ⌝ }
 {
     let sums = place < growths.len();
-    let judged = judge_with(
-        header,
-        table,
-        file,
-        sums,
-        counts,
-        store,
-        maps,
-        cells,
-        hints,
-    );
+    let judged = judge_with(header, table, file, sums, counts, store, maps, cells, hints);
     let answer = judged.answer;
     let numbers = numbers_of(answer);
     put_numbers(answers, at, numbers[0], numbers[1], numbers[2]);

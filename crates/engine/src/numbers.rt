@@ -86,10 +86,7 @@ pub extern "C" fn engine_judge_all(
     ensures right { λ r. ⌜ ((j : Judgement) × (r ≡ judgementNumber j) × (now (told .exit) ≡ judgementTold j)
         × all-spec.Each (now (automaton .entry)) (now (trees .entry)) (all-spec.outcome j (now (answers .exit)) (now (growths .exit)))) ⌝ }
 {
-    numbering::put_judgement(
-        crate::judge_all(automaton, trees, answers, growths),
-        told,
-    )
+    numbering::put_judgement(crate::judge_all(automaton, trees, answers, growths), told)
 }
 
 // Looks for a tree that an automaton's file accepts; the plan goes to the front of the buffer.

@@ -17,26 +17,41 @@ pub fn blocks_of(symbols: &[u8]) -> u32
     (symbols.len() / 512 % 15) as u32 + 1
 }
 
-// What a tree that the cache judged adds: the more, the longer a search would have taken.
-pub fn gain(blocks: u32) -> u32
+// What a tree is worth, by the time that it takes without the cache: a large tree with its sum, which only the closing of every node tells, eight times
+// as much as one that a search judges.
+pub fn worth(blocks: u32, sums: bool) -> u32
     requires { ⌜ blocks < 16 ⌝ }
     ensures { λ r. ⌜ r < 128 ⌝ }
 {
+    if !sums {
+        return blocks;
+    }
     if blocks < 2 {
         return 1;
     }
     8 * blocks
 }
 
+// What a tree that the cache judged adds.
+pub fn gain(worth: u32) -> u32
+    requires { ⌜ worth < 128 ⌝ }
+    ensures { λ r. ⌜ r < 1024 ⌝ }
+{
+    if worth < 2 {
+        return 1;
+    }
+    8 * worth
+}
+
 // Whether the cache is asked for the next tree, which may then bring as many classes as there is credit for, four for each. While it rests, a tree
-// adds one for each of its blocks.
-pub fn begin(counts: &mut Counts, blocks: u32) -> bool
-    requires { ⌜ blocks < 16 ⌝ }
+// adds what it is worth.
+pub fn begin(counts: &mut Counts, worth: u32) -> bool
+    requires { ⌜ worth < 128 ⌝ }
     ensures { λ _. ⌜ Kept (now (counts .entry)) (now (counts .exit)) ⌝ }
 {
     let credit = counts[4] % 8192;
     if credit < 256 {
-        counts[4] = credit + blocks;
+        counts[4] = credit + worth;
         return false;
     }
     counts[3] = counts[0] % 2048 + credit / 4;
@@ -45,7 +60,7 @@ pub fn begin(counts: &mut Counts, blocks: u32) -> bool
 
 // What is left of the credit after a tree, with what the tree adds.
 fn credit_after(most: u32, classes: u32, gain: u32) -> u32
-    requires { ⌜ gain < 128 ⌝ }
+    requires { ⌜ gain < 1024 ⌝ }
 {
     if most <= classes {
         return gain;
@@ -59,7 +74,7 @@ fn credit_after(most: u32, classes: u32, gain: u32) -> u32
 
 // Takes the classes that a tree brought from the credit.
 pub fn end(counts: &mut Counts, gain: u32)
-    requires { ⌜ gain < 128 ⌝ }
+    requires { ⌜ gain < 1024 ⌝ }
     ensures { λ _. ⌜ Kept (now (counts .entry)) (now (counts .exit)) ⌝ }
 {
     counts[4] = credit_after(counts[3], counts[0], gain);

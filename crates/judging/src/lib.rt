@@ -8,6 +8,7 @@ use crate::credit::blocks_of;
 use crate::credit::end;
 use crate::credit::gain;
 use crate::credit::renew;
+use crate::credit::worth;
 use automaton::Header;
 use automaton::file::Parsed;
 use bottom_up::Weighed;
@@ -136,29 +137,29 @@ fn judge_nodes(
         → CachedIn A (now (counts .exit)) (now (store .exit)) (now (maps .exit)) (now (cells .exit))
         × ToldOf A (signatureIn header) (now (symbols .entry)) sums r) ⌝ }
 {
-    let blocks = blocks_of(symbols);
-    if !begin(counts, blocks) {
+    let worth = worth(blocks_of(symbols), sums);
+    if !begin(counts, worth) {
         return without_cache(symbols, header, table, sums);
     }
     let weighed = bottom_up::judge_nodes(symbols, header, table, counts, store, maps, cells, hints);
     let verdict = weighed.verdict;
     match verdict {
         Verdict::Accepted => {
-            end(counts, gain(blocks));
+            end(counts, gain(worth));
             Weighed {
                 verdict: Verdict::Accepted,
                 growth: weighed.growth,
             }
         }
         Verdict::Other => {
-            end(counts, gain(blocks));
+            end(counts, gain(worth));
             Weighed {
                 verdict: Verdict::Other,
                 growth: weighed.growth,
             }
         }
         Verdict::Unknown => {
-            end(counts, blocks);
+            end(counts, worth);
             renew(counts, maps, cells);
             without_cache(symbols, header, table, sums)
         }

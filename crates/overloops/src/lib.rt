@@ -128,7 +128,9 @@ pub fn part_in(
     let place = Place::Child(side);
     let loops = close_in(table, states, symbol, place, left, right);
     Part {
-        overloops: loops.relation.follow(moves_in(table, symbol, place, Move::Up)),
+        overloops: loops
+            .relation
+            .follow(moves_in(table, symbol, place, Move::Up)),
         growth: loops.growth,
     }
 }

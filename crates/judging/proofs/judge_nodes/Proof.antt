@@ -8,6 +8,9 @@ use Rattle.judging.proofs.judge_nodes.Tie as tie
 blocks-of-requires : tie.Need-blocks-of-requires
 blocks-of-requires c κs = search needs
 
+worth-requires : tie.Need-worth-requires
+worth-requires c κs = search needs
+
 begin-requires : tie.Need-begin-requires
 begin-requires c κs = search needs
 
@@ -72,6 +75,7 @@ judge-nodes-spec =
     tie.close
     (tie.spec
     blocks-of-requires
+    worth-requires
     begin-requires
     without-cache-requires
     returns

@@ -91,7 +91,7 @@ loop-less : tie.Need-loop-less Inv-loop μ-loop
 loop-less c = let n = c .before .before .before .before .before .before .before .before .before .before .before .before .before .before .whole-length .ensures .0 (omega (arith, c .before .before .before .before .before .before .before .before .before .before .before .before .before .if2 .left)) in omega (arith, n .1, n .2)
 
 loop-again : tie.Need-loop-again Inv-loop μ-loop
-loop-again c = 
+loop-again c =
     let l = c .before .before .before .before .before .before .before .before .before .before .before .before .before .before .before .before .before .loop in
     let v = l .inv in
     let args = c .before .before .before .before .before .before .before .before .before .before .before .before .before .before .before .before .before .before .before .before .before .args in
