@@ -24,7 +24,7 @@
 #include <stddef.h>
 #include <stdint.h>
 
-#define ENGINE_JUDGE_STACK (120 * 1024)
+#define ENGINE_JUDGE_STACK (92 * 1024)
 #define ENGINE_ACCEPTS_STACK (120 * 1024)
 #define ENGINE_JUDGE_ALL_STACK (720 * 1024)
 #define ENGINE_SURVEY_STACK (64 * 1024)

@@ -28,7 +28,6 @@ ghost use lib.ListN.{length};
 ghost use Rattle.algorithms.specs.Automaton.{Automaton};
 ghost use Rattle.automaton.specs.File.{WithinLimits, signatureIn};
 ghost use Rattle.overloops.specs.Ready.{Headed};
-ghost use Rattle.passes.specs.Verdicts.{Tells};
 ghost use Rattle.membership.specs.Judged.{judgedBy, judged};
 ghost use Rattle.membership.specs.Demand2.{Demand2};
 ghost use Rattle.membership.specs.Grown.{growthBy, judgedWith, GrowthRight};
