@@ -49,13 +49,13 @@ fn engine(automaton: &[u8], tree: &[u8]) -> Told {
     in_numbers(found, cached(automaton, tree))
 }
 
-// An answer as numbers.
+// An answer as numbers. Of a file that is refused nothing else is asked: a batch takes its length from the first block, and may find another file.
 fn in_numbers(found: Judged, other: usize) -> Told {
     let answer = found.answer;
-    let sum = agreed(found.growth as usize, other);
+    let sum = found.growth as usize;
     match answer {
-        Answer::Accepted => judged(true, sum),
-        Answer::Other => judged(false, sum),
+        Answer::Accepted => judged(true, agreed(sum, other)),
+        Answer::Other => judged(false, agreed(sum, other)),
         Answer::Refused(refusal) => {
             refused(
                 refusal.number as usize,
