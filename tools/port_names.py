@@ -11,6 +11,8 @@ import sys
 
 LOOK = "--look" in sys.argv[1:]
 WORD = re.compile(r"[A-Za-z_][A-Za-z0-9_']*")
+DASHED = re.compile(r"(?<![\w'.-])[a-z][a-z0-9_']*(?:-[a-z0-9_']+)+(?![\w'-])|(?<=\.)[a-z][a-z0-9_']*(?:-[a-z0-9_']+)+(?![\w'-])")
+FIELD = re.compile(r"(?m)^\s+(?:pub )?([a-z][a-z0-9_']*(?:-[a-z0-9_']+)+) :")
 HUMP = re.compile(r"(?<=[a-z0-9'])([A-Z])")
 ANTT = r"(?m)(?<![^\s(){}])--(?=\s|$)[^\n]*"
 RT = r"(?m)//[^\n]*"
@@ -69,47 +71,67 @@ def put(path, text, old):
             f.write(text)
 
 
+def fields():
+    """The fields and constructors of specs/ that have a minus: words, and not lemmas."""
+    found = set()
+    for path in files(".antt", ["crates"]):
+        if "/specs/" in path:
+            found |= set(FIELD.findall(read(path)))
+    return found - set(APART.values()) - {"leaf-row"}
+
+
+def with_fields(found):
+    return lambda text: DASHED.sub(lambda m: m.group(0).replace("-", "_") if m.group(0) in found else m.group(0), text)
+
+
 def look():
+    dashed = fields()
     for path in files((".antt", ".rt"), ["crates"]):
         here = collections.defaultdict(set)
         for code, piece in pieces(read(path), RT if path.endswith(".rt") else ANTT):
             for m in WORD.finditer(piece if code else ""):
                 here[turned(m.group(0))].add(m.group(0))
+            for m in DASHED.finditer(piece if code else ""):
+                if m.group(0) in dashed:
+                    here[m.group(0).replace("-", "_")].add(m.group(0))
         for new, olds in sorted(here.items()):
             if len(olds) > 1:
                 print(f"together: {path}: {' '.join(sorted(olds))}")
 
 
 def sources():
+    turn = with_fields(fields())
     for path in files((".antt", ".rt"), ["crates"]):
         old = read(path)
         out = []
         for code, piece in pieces(old, RT if path.endswith(".rt") else ANTT):
             if code:
-                out.append(WORD.sub(word if path.endswith(".rt") else apart, piece))
+                out.append(turn(WORD.sub(word if path.endswith(".rt") else apart, piece)))
             elif piece.startswith(("--", "//")):
-                out.append(re.sub(r"`[^`\n]*`", quoted, piece))
+                out.append(re.sub(r"`[^`\n]*`", lambda m: turn(quoted(m)), piece))
             else:
                 out.append(piece)
         put(path, "".join(out), old)
 
 
 def edits():
+    turn = with_fields(fields())
     for path in files(".edit", ["crates"]):
         old = read(path)
-        put(path, re.sub(r"(?m)^(?:old|new): .*", lambda m: m.group(0)[:5] + WORD.sub(word, m.group(0)[5:]), old), old)
+        put(path, re.sub(r"(?m)^(?:old|new): .*", lambda m: m.group(0)[:5] + turn(WORD.sub(word, m.group(0)[5:])), old), old)
 
 
 def pages():
+    turn = with_fields(fields())
     for path in files(".md", ["README.md", "docs"]):
         old = read(path)
-        put(path, re.sub(r"`[^`\n]*`", quoted, old), old)
+        put(path, re.sub(r"`[^`\n]*`", lambda m: turn(quoted(m)), old), old)
 
 
 if __name__ == "__main__":
     if LOOK:
         look()
     else:
-        sources()
         edits()
         pages()
+        sources()

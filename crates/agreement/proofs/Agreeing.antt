@@ -59,8 +59,8 @@ common-longest a b =
     let most = common-within a b in
     let few : 3 * common_entries a b ≤ common_bytes a b = omega arith in
     record {
-      agrees = record { in-first = omega (arith, most.0); in-second = omega (arith, most.1); same = common-same a b (3 * common_entries a b) few };
-      longest = λ j h. let m = same-common a b (3 * j) h.in-first h.in-second h.same in omega (arith, m);
+      agrees = record { in_first = omega (arith, most.0); in_second = omega (arith, most.1); same = common-same a b (3 * common_entries a b) few };
+      longest = λ j h. let m = same-common a b (3 * j) h.in_first h.in_second h.same in omega (arith, m);
     }
 
 pub longest-once : (a b : List ℕ) (j k : ℕ) → Longest a b j → Longest a b k → j ≡ k

@@ -4,8 +4,8 @@ use Rattle.std.specs.Prelude.{ℕ, ◌*◌, ◌≤◌, ◌≡◌, List, length, 
 
 -- both logs have k whole entries, and their first k are the same bytes
 pub record Agrees (a b : List ℕ) (k : ℕ) : Type 0 where
-  pub in-first : 3 * k ≤ length a
-  pub in-second : 3 * k ≤ length b
+  pub in_first : 3 * k ≤ length a
+  pub in_second : 3 * k ≤ length b
   pub same : take (3 * k) a ≡ take (3 * k) b
 
 -- "the longest opening stretch of whole entries in which the two agree"

@@ -1,4 +1,6 @@
 // The longest opening stretch of whole entries in which two logs agree, as that part of the first log itself (document 02, W8).
+#![tactic(auto)]
+
 ghost use Rattle.std.specs.Prelude.{◌≡◌, min};
 ghost use Rattle.agreement.specs.Common.{common_bytes, common_entries, common_part};
 ghost use Rattle.agreement.specs.Longest.{Longest};

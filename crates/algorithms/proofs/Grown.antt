@@ -28,7 +28,7 @@ use Rattle.model.specs.Runs.{Chain, done, ◌then◌, PartOverloop}
 use Rattle.model.proofs.FromParts.{Same, sides, simple-map, parts-by}
 use Rattle.algorithms.specs.Automaton.{Automaton, Δ, Proper}
 use Rattle.algorithms.specs.Overloops.{node_simple, leaf_simple, overloops}
-use Rattle.algorithms.specs.Growth.{Counts, leaf_growth, node_growth, own_growth, growths, Given, Added, Grows, at_leaf, at-node}
+use Rattle.algorithms.specs.Growth.{Counts, leaf_growth, node_growth, own_growth, growths, Given, Added, Grows, at_leaf, at_node}
 use Rattle.algorithms.proofs.OverloopLaws.{of-pairs, to-pairs, has-moves, within-moves, has-node_simple, within-node_simple, overloops-has, within-overloops}
 
 -- ---- lists that count
@@ -66,8 +66,8 @@ module _ {P Q : ℕ → ℕ → Type 0} where
       }
 
 module _ {P : ℕ → ℕ → Type 0} where
-  counts-none : ((p q : ℕ) → P p q → ⊥) → Counts P 0
-  counts-none none =
+  counts_none : ((p q : ℕ) → P p q → ⊥) → Counts P 0
+  counts_none none =
       record { pairs = []; size = refl; distinct = tt; exactly = λ p q. (λ m. absurd (Memᴰ.not-nil m), λ h. absurd (none p q h)) }
 
   -- there is one count
@@ -102,11 +102,11 @@ abbrev InRow : (a at d x : ℕ) → ℕ → ℕ → Type 0
 InRow a at d x p q = (p ≡ a) × ((i : ℕ) × (i < d) × (q ≡ at + i) × (bit x i ≡ 1))
 
 row_counts : (a at d x : ℕ) → Counts (InRow a at d x) (bits_of d x)
-row_counts a at zero x = counts-none (λ p q h. omega (arith, h.1.1))
+row_counts a at zero x = counts_none (λ p q h. omega (arith, h.1.1))
 row_counts a at (suc d) x = counts-map (λ p q. (to p q, of p q)) (counts-or (low (x % 2) (omega arith)) (row_counts a (suc at) d (x / 2)) apart)
   where
     low : (v : ℕ) → v < 2 → Counts (λ p q. Only a at p q × (v ≡ 1)) v
-    low zero l = counts-none (λ p q h. omega (arith, h.1))
+    low zero l = counts_none (λ p q h. omega (arith, h.1))
     low (suc zero) l = counts-map (λ p q. (λ h. (h, refl), λ h. h.0)) (counts-only a at)
     low (suc (suc v)) l = absurd (omega arith)
 
@@ -126,7 +126,7 @@ abbrev InRows : (at : ℕ) → List ℕ → ℕ → ℕ → Type 0
 InRows at rows p q = (i : ℕ) × (p ≡ at + i) × (q < 32) × has rows i q
 
 table-counts : (at : ℕ) (rows : List ℕ) → Counts (InRows at rows) (count_of rows)
-table-counts at [] = counts-none (λ p q h. omega (arith, bit-zero q, h.3))
+table-counts at [] = counts_none (λ p q h. omega (arith, bit-zero q, h.3))
 table-counts at (row ∷ rows) = counts-map (λ p q. (to p q, of p q)) (counts-or (row_counts at 0 32 row) (table-counts (suc at) rows) apart)
   where
     apart : (p q : ℕ) → InRow at 0 32 row p q → InRows (suc at) rows p q → ⊥
@@ -237,14 +237,14 @@ module _ (A : Automaton) where
   -- There is one sum.
   pub grows-once : {τ : Place} {t : Tree} {k j : ℕ} → Grows A τ t k → Grows A τ t j → k ≡ j
   grows-once (at_leaf c) (at_leaf d) = counts-once c d
-  grows-once (at-node c x y) (at-node d u v) = ap₂ (λ (a b : ℕ). a + b) (counts-once c d) (ap₂ (λ (a b : ℕ). a + b) (grows-once x u) (grows-once y v))
+  grows-once (at_node c x y) (at_node d u v) = ap₂ (λ (a b : ℕ). a + b) (counts-once c d) (ap₂ (λ (a b : ℕ). a + b) (grows-once x u) (grows-once y v))
 
 module _ (A : Automaton) (P : Proper A) where
   -- The computed sum is the one over runs.
   pub grows : (τ : Place) (t : Tree) → Grows A τ t (growths A τ t)
   unfolding growths
   grows τ (leaf σ) = at_leaf (own-counts A P τ (leaf σ))
-  grows τ (node σ l r) = at-node (own-counts A P τ (node σ l r)) (grows (Child Left) l) (grows (Child Right) r)
+  grows τ (node σ l r) = at_node (own-counts A P τ (node σ l r)) (grows (Child Left) l) (grows (Child Right) r)
 
   -- At most 576 for each node.
   pub growths-few : (τ : Place) (t : Tree) → growths A τ t ≤ 576 * size t

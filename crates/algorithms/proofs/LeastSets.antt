@@ -112,10 +112,10 @@ module _ (A : Automaton) (P : Proper A) where
       Holds (Δ A) (alphabet_of A) (In A.accepting) (Part (sets_of A x)) (Top (sets_of A x))
   fixed-holds x w l e =
       record {
-        leaf-part = λ s σ p q m c. (held (side s x) p q).1 (l s p q ((has-leaf_side A P s p q).1 (σ, m, c)));
-        node-part = λ s σ p q m (k, c, u). (held (side s x) p q).1 (still s p q ((has-formed_side A P x w s p q).1 (inr (σ, m, (k, to-tabled c, u)))));
-        leaf-top = λ σ p f m c b. (top-has x p).1 (f, b, (has-root_side A P x w p f).1 (inl (σ, m, (c, P.finals f b))));
-        node-top = λ σ p f m c b. (top-has x p).1 (f, b, (has-root_side A P x w p f).1 (inr (σ, m, (to-tabled c, P.finals f b))));
+        leaf_part = λ s σ p q m c. (held (side s x) p q).1 (l s p q ((has-leaf_side A P s p q).1 (σ, m, c)));
+        node_part = λ s σ p q m (k, c, u). (held (side s x) p q).1 (still s p q ((has-formed_side A P x w s p q).1 (inr (σ, m, (k, to-tabled c, u)))));
+        leaf_top = λ σ p f m c b. (top-has x p).1 (f, b, (has-root_side A P x w p f).1 (inl (σ, m, (c, P.finals f b))));
+        node_top = λ σ p f m c b. (top-has x p).1 (f, b, (has-root_side A P x w p f).1 (inr (σ, m, (to-tabled c, P.finals f b))));
       }
     where
       still : (s : Side) (p q : ℕ) → has (formed_side A s x) p q → has (side s x) p q
@@ -137,14 +137,14 @@ module _ (A : Automaton) (P : Proper A) where
       where
         by : (s : Side) (p q : ℕ) → has (side s x) p q ⊎ Formed A x s p q → Q s p q
         by s p q (inl k) = g.1 s p q k
-        by s p q (inr (σ, m, (r, c, u))) = h.node-part s σ p q m (r, below_chain x g.1 c, u)
+        by s p q (inr (σ, m, (r, c, u))) = h.node_part s σ p q m (r, below_chain x g.1 c, u)
 
     below_top : (x : Parts) → WithinParts A x → Below x → (p : ℕ) → Top (sets_of A x) p → R p
     below_top x w b p t = let c = (top-has x p).0 t in by c.0 c.1 ((has-root_side A P x w p c.0).0 c.2)
       where
         by : (f : ℕ) → In A.accepting f → LeafTop A p f ⊎ BranchTop A x p f → R p
-        by f e (inl (σ, m, (c, l))) = h.leaf-top σ p f m c e
-        by f e (inr (σ, m, (c, l))) = h.node-top σ p f m (below_chain x b c) e
+        by f e (inl (σ, m, (c, l))) = h.leaf_top σ p f m c e
+        by f e (inr (σ, m, (c, l))) = h.node_top σ p f m (below_chain x b c) e
 
   -- ---- the computed sets
   abbrev start : Parts
@@ -178,8 +178,8 @@ module _ (A : Automaton) (P : Proper A) where
   parts_below {Q} h = (settled-keeps (λ x. WithinParts A x × Below h x) (below-formed h) 1153 start (within-start, first)).1
     where
       first : (s : Side) (p q : ℕ) → has (side s start) p q → Q s p q
-      first Left p q k = let c = (has-leaf_side A P Left p q).0 k in h.leaf-part Left c.0 p q c.1 c.2
-      first Right p q k = let c = (has-leaf_side A P Right p q).0 k in h.leaf-part Right c.0 p q c.1 c.2
+      first Left p q k = let c = (has-leaf_side A P Left p q).0 k in h.leaf_part Left c.0 p q c.1 c.2
+      first Right p q k = let c = (has-leaf_side A P Right p q).0 k in h.leaf_part Right c.0 p q c.1 c.2
 
   pub parts-hold : Holds (Δ A) (alphabet_of A) (In A.accepting) (Part (sets_of A (least_parts A))) (Top (sets_of A (least_parts A)))
   parts-hold = fixed-holds (least_parts A) within-least parts-leaves parts-fixed

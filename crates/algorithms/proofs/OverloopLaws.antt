@@ -10,7 +10,7 @@ use native.Mathlib.Omega.{arith}
 use lib.ListN.{length, get_or}
 use lib.Dec.{T}
 use Rattle.relation.proofs.BitLaws.{bit-zero}
-use Rattle.relation.specs.Rows.{has, no_pairs, joined, composed, closed}
+use Rattle.relation.specs.Rows.{has, no-pairs, joined, composed, closed}
 use Rattle.relation.specs.Growth.{growth_of}
 use Rattle.relation.proofs.Pairs.{has-none, has-joined, has-composed, meeting-has}
 use Rattle.relation.specs.Chain.{Within, Chain as Pairs, stop, step}
@@ -22,7 +22,7 @@ use Rattle.model.specs.declared.Place.TheVariants.{Root, Child}
 use Rattle.model.specs.declared.Move.{Move}
 use Rattle.model.specs.declared.Move.TheVariants.{Stay, Up, Down}
 use Rattle.model.specs.Trees.{Tree, leaf, node}
-use Rattle.model.specs.Runs.{Chain, done, ◌then◌, Loop, UpClosure, Overloop, Simple, loop-here, loop_down}
+use Rattle.model.specs.Runs.{Chain, done, ◌then◌, Loop, UpClosure, Overloop, Simple, loop_here, loop_down}
 use Rattle.model.proofs.Loops.{loop-leaf}
 use Rattle.model.proofs.FromParts.{Same, sides, parts-by, loop-node-by, overloop-node}
 use Rattle.algorithms.specs.Automaton.{Automaton, In, Δ, Accepted, Proper}
@@ -144,14 +144,14 @@ module _ (A : Automaton) (P : Proper A) where
           loop_down Right ((has-moves σ τ (Down Right) p c.0).0 c.1) c.2
 
       to-simples : {p q : ℕ} → Simples p q → (has by_stay p q ⊎ has by_left p q) ⊎ has by_right p q
-      to-simples (loop-here d) = inl (inl ((has-moves σ τ Stay _ _).1 d))
+      to-simples (loop_here d) = inl (inl ((has-moves σ τ Stay _ _).1 d))
       to-simples (loop_down Left d x) = inl (inr ((has-composed (moves A σ τ (Down Left)) L _ _).1 (_, (has-moves σ τ (Down Left) _ _).1 d, x)))
       to-simples (loop_down Right d x) = inr ((has-composed (moves A σ τ (Down Right)) R _ _).1 (_, (has-moves σ τ (Down Right) _ _).1 d, x))
 
       has-simples : (p q : ℕ) → has simples p q ↔ Simples p q
       unfolding simples
       has-simples p q = (
-        λ h. ⊎_elim (λ k. ⊎_elim (λ d. loop-here ((has-moves σ τ Stay p q).0 d)) (of_left p q) ((has-joined by_stay by_left p q).0 k)) (of_right p q)
+        λ h. ⊎_elim (λ k. ⊎_elim (λ d. loop_here ((has-moves σ τ Stay p q).0 d)) (of_left p q) ((has-joined by_stay by_left p q).0 k)) (of_right p q)
             ((has-joined (joined by_stay by_left) by_right p q).0 h),
         λ s. (has-joined (joined by_stay by_left) by_right p q).1 (⊎_elim (λ k. inl ((has-joined by_stay by_left p q).1 k)) inr (to-simples s)),
       )
@@ -174,26 +174,26 @@ module _ (A : Automaton) (P : Proper A) where
       within-node_loops = within-closed n simples P.few within-simples
 
   -- A leaf is a node whose parts have no overloops: one function forms the loops of both.
-  leaf-given : (τ : Place) (σ : ℕ) → leaf_simple A τ σ ≡ node_simple A τ σ no_pairs no_pairs
+  leaf-given : (τ : Place) (σ : ℕ) → leaf_simple A τ σ ≡ node_simple A τ σ no-pairs no-pairs
   unfolding simples
   leaf-given τ σ =
       let w = within_none n in
-      same-pairs (moves A σ τ Stay) (simples τ σ no_pairs no_pairs w w) (within-moves σ τ Stay) (within-simples τ σ no_pairs no_pairs w w)
+      same-pairs (moves A σ τ Stay) (simples τ σ no-pairs no-pairs w w) (within-moves σ τ Stay) (within-simples τ σ no-pairs no-pairs w w)
       (λ p q. (
-        λ h. (has-simples τ σ no_pairs no_pairs w w p q).1 (loop-here ((has-moves σ τ Stay p q).0 h)),
-        λ h. only_here p q ((has-simples τ σ no_pairs no_pairs w w p q).0 h),
+        λ h. (has-simples τ σ no-pairs no-pairs w w p q).1 (loop_here ((has-moves σ τ Stay p q).0 h)),
+        λ h. only_here p q ((has-simples τ σ no-pairs no-pairs w w p q).0 h),
       ))
     where
-      only_here : (p q : ℕ) → Simple (Δ A) τ σ (sides (has no_pairs) (has no_pairs)) p q → has (moves A σ τ Stay) p q
-      only_here p q (loop-here d) = (has-moves σ τ Stay p q).1 d
+      only_here : (p q : ℕ) → Simple (Δ A) τ σ (sides (has no-pairs) (has no-pairs)) p q → has (moves A σ τ Stay) p q
+      only_here p q (loop_here d) = (has-moves σ τ Stay p q).1 d
       only_here p q (loop_down {m = m} Left d x) = absurd (has-none m q x)
       only_here p q (loop_down {m = m} Right d x) = absurd (has-none m q x)
 
-  pub leaf-as-node : (τ : Place) (σ : ℕ) → leaf_loops A τ σ ≡ node_loops A τ σ no_pairs no_pairs
+  pub leaf-as-node : (τ : Place) (σ : ℕ) → leaf_loops A τ σ ≡ node_loops A τ σ no-pairs no-pairs
   unfolding leaf_loops node_loops
   leaf-as-node τ σ = ap (closed n) (leaf-given τ σ)
 
-  pub leaf-grows-as-node : (τ : Place) (σ : ℕ) → leaf_growth A τ σ ≡ node_growth A τ σ no_pairs no_pairs
+  pub leaf-grows-as-node : (τ : Place) (σ : ℕ) → leaf_growth A τ σ ≡ node_growth A τ σ no-pairs no-pairs
   unfolding leaf_growth node_growth
   leaf-grows-as-node τ σ = ap (growth_of n) (leaf-given τ σ)
 

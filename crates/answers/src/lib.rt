@@ -1,4 +1,6 @@
 // The answers to many trees' files, end to end, by an automaton's file: three numbers each, in a lent slice, and in another the sums of growths.
+#![tactic(auto)]
+
 ghost use Rattle.std.specs.Prelude.{◌≡◌, length};
 ghost use Rattle.algorithms.specs.Automaton.{Automaton};
 ghost use Rattle.automaton.specs.File.{WithinLimits};
@@ -14,7 +16,7 @@ use refusal::Refusal;
 use transitions::TransitionTable;
 
 // How many files were judged; or the automaton's refusal.
-#[derive(Drop)]
+#[derive(Clone, Copy)]
 pub enum Judgement {
     Files(usize),
     Refused(Refusal),

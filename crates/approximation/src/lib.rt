@@ -1,5 +1,7 @@
 // The approximation of an automaton's overloops by three sets of pairs, the paper's third algorithm (document 01's quick check): the least
 // that hold the overloops of all leaves and what nodes form of them. A `Class` serves as the pair of the left and the right set.
+#![tactic(auto)]
+
 ghost use Rattle.std.specs.Prelude.{◌≡◌, ℕ, ◌≤◌, List};
 ghost use Rattle.relation.specs.Rows.{joined};
 ghost use Rattle.model.specs.declared.Side.{Side};

@@ -7,7 +7,7 @@ use refusal::lines::{Format, count_check, file_check, filler_check, kind_check, 
 use refusal::{Check, Fault, Refusal, refused};
 
 // What reading a file gives.
-#[derive(Drop)]
+#[derive(Clone, Copy)]
 pub enum Parsed {
     Read(Header),
     Refused(Refusal),
@@ -121,7 +121,7 @@ pub fn parse(file: &[u8], contents: &mut Contents) -> Parsed
     if let Check::Refused(refusal) = body_check(content, header) {
         return Parsed::Refused(refusal);
     }
-    bytes::copy(content, contents);
+    copying::copy(content, contents);
     Parsed::Read(header)
 }
 

@@ -1,4 +1,6 @@
 // Tree-walking automata from their files (document 01's walker files): the counts, the sets, the rules and the compiled transitions.
+#![tactic(auto)]
+
 pub mod file;
 pub mod rules;
 
@@ -8,14 +10,14 @@ use model::{Move, Place, State, Symbol};
 pub type Contents = [u8; 3048];
 
 // Where a rule applies: at one place, or at all three.
-#[derive(Drop)]
+#[derive(Clone, Copy)]
 pub enum Scope {
     Only(Place),
     Every,
 }
 
 // In `state`, at a node with `symbol` at a place of the scope, go by `step` into `next`.
-#[derive(Drop)]
+#[derive(Clone, Copy)]
 pub struct Rule {
     pub symbol: Symbol,
     pub state: State,
@@ -25,7 +27,7 @@ pub struct Rule {
 }
 
 // The counts and the sets at the start of a file. Bit i of a set stands for number i.
-#[derive(Drop)]
+#[derive(Clone, Copy)]
 pub struct Header {
     pub states: u8,
     pub symbols: u8,

@@ -8,19 +8,19 @@ use algorithms::is_branch;
 use model::{Move, Place, Side, State, Symbol};
 use refusal::{Check, Fault, refused};
 
-#[derive(Drop)]
+#[derive(Clone, Copy)]
 pub enum PlaceByte {
     Known(Scope),
     Unknown,
 }
 
-#[derive(Drop)]
+#[derive(Clone, Copy)]
 pub enum MoveByte {
     Known(Move),
     Unknown,
 }
 
-#[derive(Drop)]
+#[derive(Clone, Copy)]
 pub enum RuleBytes {
     Known(Rule),
     Unknown,

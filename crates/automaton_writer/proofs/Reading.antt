@@ -200,9 +200,9 @@ module _ (h : Header) (rs : List Rule) (ok : Passing h rs) where
   unfolding body_check joined
   body-passes = rw (← bytes-length, (written-passes format bytes fits-file).filler, ok.sets, rules-pass)
 
-  pub reads-back : ReadsBack h rs
+  pub reads_back : ReadsBack h rs
   unfolding parsed joined bytes
-  reads-back =
+  reads_back =
       record {
         read = rw (header_is, (written-passes format bytes fits-file).file, layout-passes, body-passes);
         rules = rule-is;

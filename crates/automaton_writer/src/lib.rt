@@ -1,4 +1,6 @@
 // Writes the file of an automaton from its header and the bytes of its rule records.
+#![tactic(auto)]
+
 ghost use Rattle.std.specs.Prelude.{◌≡◌, [], ◌++◌, ◌+◌, ◌*◌, ◌<◌, ◌≤◌, length, get_or, drop};
 ghost use Rattle.automaton.specs.Payload.{payload_of};
 ghost use Rattle.blocks.specs.FileOf.{blocks_needed, file_of};

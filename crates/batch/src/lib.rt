@@ -1,4 +1,6 @@
 // A batch: the files of trees, end to end, and their tally. `file` has it over an automaton's file.
+#![tactic(auto)]
+
 pub mod file;
 pub mod part;
 

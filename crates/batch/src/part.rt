@@ -18,7 +18,7 @@ use membership::Answer;
 use transitions::TransitionTable;
 
 // How many files were judged, how many bytes they are, and whether the batch goes on after them.
-#[derive(Drop)]
+#[derive(Clone, Copy)]
 pub struct Judged {
     pub files: usize,
     pub bytes: usize,

@@ -1,6 +1,8 @@
 // Compares the tally of a batch with a brute-force run on each of its trees. A batch is made from its number alone: an automaton by chance, and
 // twelve trees, each of which comes twice in a row. In about half of the batches some file is damaged: a byte is changed, which ends the batch, or
 // a node has a symbol that there is not, which is counted as refused. The brute force works on the data, the engine on the files, end to end.
+#![tactic(auto)]
+
 use generated::families;
 use refusal::Check;
 use sampling::access::{byte, number, set_byte, set_number};
@@ -17,7 +19,7 @@ const BATCHES: usize = 400;
 const TREES: usize = 12;
 
 // A batch as it is made: the bytes so far, and whether a file has ended it.
-#[derive(Drop)]
+#[derive(Clone, Copy)]
 struct Made {
     length: usize,
     ended: bool,

@@ -1,6 +1,8 @@
 // Compares the checks of blocks, the joining of their contents, and the lines 1 to 6 of the refusals of a tree's file with a definition that
 // shares nothing with the engine: on a file of nine blocks with each bit damaged, on files of blocks by chance, and on trees' files by
 // chance. It writes what each family had, and how often the engine differs.
+#![tactic(auto)]
+
 mod compare;
 
 use block_files::files;

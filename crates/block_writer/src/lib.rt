@@ -1,4 +1,6 @@
 // Writes the file that holds a payload: the fewest blocks, zero filler, right checks.
+#![tactic(auto)]
+
 ghost use Rattle.std.specs.Prelude.{◌≡◌, ◌+◌, ◌*◌, ◌/◌, ◌%◌, ◌<◌, ◌≤◌, ◌++◌, length, drop, slice_index};
 ghost use Rattle.blocks.specs.Blocks.{word_at};
 ghost use Rattle.blocks.specs.FileOf.{blocks_needed, check_for, word_bytes, file_byte, file_of};
@@ -8,7 +10,7 @@ use blocks::wide;
 use refusal::{Check, Fault, Refusal, refused};
 
 // What a call that writes a file answers: its length, or the refusal.
-#[derive(Drop)]
+#[derive(Clone, Copy)]
 pub enum Written {
     Bytes(usize),
     Refused(Refusal),

@@ -114,7 +114,7 @@ letter-nodes h (ParsedTree.Nodes k) w s t b e =
 answer-is : (w s : List ℕ) (h : Header) (k : ℕ) (t : Tree) (b : Bool) → parsed w ≡ Parsed.Read h → read_tree (signature_of (automaton_of h (content w))) s ≡ ParsedTree.Nodes k
     → tree_of h.branches (nodes_of k (content s)) ≡ t → accepts? (automaton_of h (content w)) t ≡ b → judged w s ≡ accepted_if b
 unfolding judged judged_by
-answer-is w s h k t b read letter-read same accepted = rw (read, letter-read, same, accepted)
+answer-is w s h k t b read letter_read same accepted = rw (read, letter_read, same, accepted)
 
 -- the two answers are the two sides of a test
 told-run : (b : Bool) (a : Answer) {X : Type 0} → a ≡ accepted_if b → (a ≡ Answer.Accepted) ↔ X → X ↔ T b
@@ -139,7 +139,7 @@ judges-right w s t b e =
       header = h;
       read = first.1;
       nodes = k;
-      letter-read = second.1;
+      letter_read = second.1;
       writes = written;
       answer = answer;
       run = run_is _ _ t b (judged w s) (judged-right w s h k first.1 second.1) written answer;
@@ -182,10 +182,10 @@ surveys-right w answer plan quick e =
     record {
       header = h;
       read = f.1;
-      survey-is = survey;
-      quick-is = check;
-      survey-right = λ buffer long. rw (survey buffer long) at (surveyed-right w buffer h f.1 long);
-      quick-right = rw check at (checked-right w h f.1);
+      survey_is = survey;
+      quick_is = check;
+      survey_right = λ buffer long. rw (survey buffer long) at (surveyed-right w buffer h f.1 long);
+      quick_right = rw check at (checked-right w h f.1);
     }
 
 -- ---- every row
@@ -194,7 +194,7 @@ row-right : (r : Row) → seen r ≡ said r → Right r
 unfolding seen said
 row-right (judges w symbols t b) e = judges-right w (letter symbols) t b e
 row-right (surveys w answer plan quick) e = surveys-right w answer plan quick e
-row-right (seals symbols check) e = record { check-is = (cc); stands = (cc) }
+row-right (seals symbols check) e = record { check_is = (cc); stands = (cc) }
 
 -- two functions that agree over a list agree on each of its elements
 same_at : {A B : Type 0} (f g : A → B) (l : List A) → map f l ≡ map g l → (a : A) → a ∈ l → f a ≡ g a

@@ -49,7 +49,7 @@ pub record JudgesRight (w s : List ℕ) (t : Tree) (accepted : Bool) : Type 0 wh
   pub header : Header
   pub read : parsed w ≡ Parsed.Read header
   pub nodes : ℕ
-  pub letter-read : read_tree (signature_of (automaton_of header (content w))) s ≡ ParsedTree.Nodes nodes
+  pub letter_read : read_tree (signature_of (automaton_of header (content w))) s ≡ ParsedTree.Nodes nodes
   pub writes : Writes (signature_of (automaton_of header (content w))) (nodes_of nodes (content s)) t
   pub answer : judged w s ≡ accepted_if accepted
   pub run : Accepted (automaton_of header (content w)) t ↔ T accepted
@@ -63,14 +63,14 @@ planned answer plan buffer = answered answer (plan ++ drop (length plan) buffer)
 pub record SurveysRight (w : List ℕ) (answer : Survey) (plan : List ℕ) (quick : Quick) : Type 0 where
   pub header : Header
   pub read : parsed w ≡ Parsed.Read header
-  pub survey-is : (buffer : List ℕ) → 195 ≤ length buffer → surveyed w buffer ≡ planned answer plan buffer
-  pub quick-is : checked w ≡ quick
-  pub survey-right : (buffer : List ℕ) → 195 ≤ length buffer → Surveys (automaton_of header (content w)) buffer (planned answer plan buffer)
-  pub quick-right : Approximates (automaton_of header (content w)) quick
+  pub survey_is : (buffer : List ℕ) → 195 ≤ length buffer → surveyed w buffer ≡ planned answer plan buffer
+  pub quick_is : checked w ≡ quick
+  pub survey_right : (buffer : List ℕ) → 195 ≤ length buffer → Surveys (automaton_of header (content w)) buffer (planned answer plan buffer)
+  pub quick_right : Approximates (automaton_of header (content w)) quick
 
 -- the check of block 0 is this number, and it stands in the four bytes after the content
 pub record SealsRight (s : List ℕ) (check : ℕ) : Type 0 where
-  pub check-is : block_check s 0 ≡ check
+  pub check_is : block_check s 0 ≡ check
   pub stands : word_at s 508 ≡ check
 
 abbrev pub Right : Row → Type 0

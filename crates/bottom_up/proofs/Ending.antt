@@ -37,9 +37,9 @@ parts-ended A sg σ x y h counts store maps cells leaves table s st growth sum k
       l = p.l;
       r = p.r;
       writes = p.writes;
-      named-l = (rw ex p.tells-l.0, λ side. rw ex (p.tells-l.1.0 side));
-      named-r = (rw ey p.tells-r.0, λ side. rw ey (p.tells-r.1.0 side));
-      grown = omega (arith, grown, p.total, below-node A store p.σ st.first st.second p.l p.r p.tells-l.1 p.tells-r.1);
+      named_l = (rw ex p.tells_l.0, λ side. rw ex (p.tells_l.1.0 side));
+      named_r = (rw ey p.tells_r.0, λ side. rw ey (p.tells_r.1.0 side));
+      grown = omega (arith, grown, p.total, below-node A store p.σ st.first st.second p.l p.r p.tells_l.1 p.tells_r.1);
     }
 
 -- the pass begins with nothing on the stack

@@ -8,7 +8,7 @@ use mathlib.Core.Bool.{true, false}
 use mathlib.Core.List.{List, [], ◌∷◌}
 use lib.ListN.{length, get_or, set}
 use lib.Seq.{get_or-set_same, get_or-set_other, set_out}
-use Rattle.relation.specs.Rows.{no_pairs}
+use Rattle.relation.specs.Rows.{no-pairs}
 use Rattle.relation.specs.Sets.{member}
 use Rattle.model.specs.Trees.{Tree, leaf, node}
 use Rattle.model.specs.declared.Side.{Side}
@@ -75,7 +75,7 @@ pub as_before : (A : Automaton) (counts store maps cells : List ℕ) → CachedI
 as_before A counts store maps cells k = record { cached = k; same = λ i s l. refl; more = omega arith }
 
 -- the word of a node over two blank parts is that of a leaf
-leaf-tells : (A : Automaton) (store : List ℕ) (σ w : ℕ) → Proper A → ((s : Side) → rows_of store 0 s ≡ no_pairs) → Node A store σ 0 0 w
+leaf-tells : (A : Automaton) (store : List ℕ) (σ w : ℕ) → Proper A → ((s : Side) → rows_of store 0 s ≡ no-pairs) → Node A store σ 0 0 w
     → TellsWord A store w (leaf σ)
 unfolding overloops own_growth
 leaf-tells A store σ w proper blank n = (
@@ -135,7 +135,7 @@ leaf-on A sg σ w v counts store maps cells leaves table s counts' store' maps' 
 -- the classes of the two trees on top
 pub known : {A : Automaton} {sg : Signature} {counts store maps cells leaves table s : List ℕ} {growth : ℕ} (st : Stack) → Loaded A sg counts store maps cells leaves table s st growth
     → st.top + 1 < 128 → (id_of st.first < classes counts) × (id_of st.second < classes counts)
-known st k few = let t = passes.top st k.stacked few in (t.trees.tells-l.0, t.trees.tells-r.0)
+known st k few = let t = passes.top st k.stacked few in (t.trees.tells_l.0, t.trees.tells_r.0)
 
 pub branch-on : (A : Automaton) (sg : Signature) (σ l r w v h : ℕ) (counts store maps cells leaves table s counts' store' maps' cells' table' : List ℕ) (st st' : Stack) (growth sum : ℕ)
     → Loaded A sg counts store maps cells leaves table s st growth → st.top + 1 < 128
@@ -149,10 +149,10 @@ branch-on A sg σ l r w v h counts store maps cells leaves table s counts' store
     let t = passes.top st k.stacked few in
     let known : Right A (classes counts') store' σ (id_of st.first) (id_of st.second) w = rw (← el, ← er) right in
     let p = t.trees in
-    let x = same-tells A (classes counts) (classes counts') store store' after.same after.more st.first p.l p.tells-l in
-    let y = same-tells A (classes counts) (classes counts') store store' after.same after.more st.second p.r p.tells-r in
+    let x = same-tells A (classes counts) (classes counts') store store' after.same after.more st.first p.l p.tells_l in
+    let y = same-tells A (classes counts) (classes counts') store store' after.same after.more st.second p.r p.tells_r in
     let total : below_growths A (node σ p.l p.r) + p.total-rest ≡ sum =
-    omega (arith, grown, p.total-is, below-node A store σ st.first st.second p.l p.r p.tells-l.1 p.tells-r.1) in
+    omega (arith, grown, p.total-is, below-node A store σ st.first st.second p.l p.r p.tells_l.1 p.tells_r.1) in
     record {
       cached = after.cached;
       leafed = leaves-stay A counts store counts' store' maps' cells' leaves after k.cached.some k.leafed;

@@ -33,8 +33,8 @@ pub record Rooted (A : Automaton) (sg : Signature) (count : ℕ) (store s : List
   pub l : Tree
   pub r : Tree
   pub writes : Writes sg s (node σ l r)
-  pub named-l : Named A count store x l
-  pub named-r : Named A count store y r
+  pub named_l : Named A count store x l
+  pub named_r : Named A count store y r
   pub grown : growth ≡ below_growths A (node σ l r)
 
 -- what the pass found of a list: the classes of the parts of a tree that it writes, or that it writes a leaf; Off is no answer

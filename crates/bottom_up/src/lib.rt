@@ -1,5 +1,7 @@
 // The pass over a node list from its end, a look-up a node: the classes of the trees that it writes, whether the tree is accepted, and the sum of
 // the growths of closing at its nodes. Lines 10 to 12 hold of every list for which it answers.
+#![tactic(auto)]
+
 mod steps;
 
 ghost use Rattle.std.specs.Prelude.{◌≡◌, List, ◌∷◌, ℕ, ◌+◌, ◌<◌, ◌≤◌, length, get_or};
@@ -28,7 +30,7 @@ use relation::Relation;
 use transitions::TransitionTable;
 
 // What the pass found: the classes of the root's parts, and the sum of the growths below the root; that the root is a leaf, and all; or nothing.
-#[derive(Drop)]
+#[derive(Clone, Copy)]
 enum Passed {
     Parts(u32, u32, u32),
     Leaf,
@@ -119,7 +121,7 @@ fn pass(
 }
 
 // Whether a tree is accepted, with the sum of the growths of closing at its nodes; the sum is 0 where it is not known.
-#[derive(Drop)]
+#[derive(Clone, Copy)]
 pub struct Weighed {
     pub verdict: Verdict,
     pub growth: u32,

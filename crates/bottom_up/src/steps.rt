@@ -25,7 +25,7 @@ pub fn id(word: u64) -> u32
 }
 
 // What a step of the pass gives: the stack and the sum after the node; or that the pass is off.
-#[derive(Drop)]
+#[derive(Clone, Copy)]
 pub enum Step {
     On(Stack, u32),
     Off,

@@ -19,7 +19,7 @@ use Rattle.algorithms.specs.Automaton.{Automaton, alphabet_of}
 use Rattle.algorithms.specs.Saturate.{algebra_of}
 use Rattle.algorithms.proofs.Alphabets.{to-numbered}
 use Rattle.algorithms.proofs.Recognized.{same-sound, same_refl}
-use Rattle.relation.specs.Sets.{member, member-has}
+use Rattle.relation.specs.Sets.{member, member_has}
 use Rattle.automaton.specs.declared.Header.{Header}
 use Rattle.overloops.specs.Ready.{Headed}
 use Rattle.interchange.specs.Interchange.{Interchangeable, Doubled}
@@ -132,4 +132,4 @@ module _ (A : Automaton) where
       → σ ∈ (alphabet_of A).branches
   branch_in hd table k σ l e t =
       to-numbered 1 A.branches 0 A.symbols σ (omega arith) (omega (arith, k.symbols))
-      (rw k.branches ((member-has hd.branches σ).0 (sym e ∙ t)))
+      (rw k.branches ((member_has hd.branches σ).0 (sym e ∙ t)))

@@ -1,6 +1,8 @@
 // The candidates of a round of the saturation, document 01's survey, tried in order: each is tested for acceptance, and kept as a row if its
 // class is new. Only candidates over some row of the last round are tried, since all others were tried before; and of those over rows that are
 // interchangeable at their symbol, only the first.
+#![tactic(auto)]
+
 ghost use Rattle.std.specs.Prelude.{◌≡◌, ℕ, ◌-◌, ◌<◌, ◌≤◌, length, eqb, ltb};
 ghost use mathlib.Core.List.{List, [], ◌∷◌, map, flat_map};
 ghost use Rattle.relation.specs.Bit.{bit};
@@ -23,7 +25,7 @@ use representatives::{Origin, Row, RowTable, class_at, keep};
 use transitions::TransitionTable;
 
 // What trying candidates gives: the first that is accepted, or the count of the rows kept (65 for more than 64).
-#[derive(Drop)]
+#[derive(Clone, Copy)]
 pub enum Tried {
     Accepted(Origin),
     Kept(usize),

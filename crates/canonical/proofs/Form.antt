@@ -23,7 +23,7 @@ use Rattle.automaton.specs.declared.file.Parsed.{Parsed}
 use Rattle.automaton.specs.declared.rules.RuleBytes.{RuleBytes}
 use Rattle.automaton.proofs.Passed.{counts-passed, rule-in, file-read}
 use Rattle.automaton_writer.specs.ReadsBack.{Fits, FitsEach, ReadsBack}
-use Rattle.automaton_writer.proofs.Reading.{reads-back}
+use Rattle.automaton_writer.proofs.Reading.{reads_back}
 use Rattle.transitions.specs.Transitions.{Covers}
 use Rattle.transitions.specs.Spread.{places_of, at_place, spread, spread_first, spread_rules, SameRules}
 use Rattle.transitions.proofs.Spreading.{rule-same, spread-has}
@@ -175,7 +175,7 @@ module _ (s : List ℕ) (h : Header) (e : parsed s ≡ Parsed.Read h) where
     pub form-reads : ReadsBack header rules
     form-reads =
         let read = file-read s h e in
-        reads-back header rules
+        reads_back header rules
         (record {
           number = refl;
           counts = counts-pass h (length rules) read.counts few;

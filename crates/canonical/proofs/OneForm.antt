@@ -122,7 +122,7 @@ form-written s out n f =
       rules = rules;
       long = f.long;
       bytes = f.bytes;
-      reads-back = form-reads s h f.read f.few;
+      reads_back = form-reads s h f.read f.few;
       counts = record { states = refl; symbols = refl; initial = refl; accepting = refl; branches = refl };
       number = refl;
       spread = remaining-placed s h f.read;
@@ -142,11 +142,11 @@ kept s out r told = by (parsed s) refl
         ap (λ (x : Filled). x.out) is
         ∙ after_kept (form_check h rules (length out)) (canonical_file h rules) out r (ap (λ (x : Filled). x.answer) (sym is) ∙ told)
 
-unless-stopped : (s out : List ℕ) (h : Header) → parsed s ≡ Parsed.Read h → many_check (length (remaining h (content s))) ≡ Passed
+unless_stopped : (s out : List ℕ) (h : Header) → parsed s ≡ Parsed.Read h → many_check (length (remaining h (content s))) ≡ Passed
     → room_check (length (canonical_file h (remaining h (content s)))) (length out) ≡ Passed
     → (canonical_of s out).answer ≡ Written.Bytes (length (canonical_file h (remaining h (content s))))
 unfolding written_for form_check
-unless-stopped s out h e many room =
+unless_stopped s out h e many room =
     let both : form_check h (remaining h (content s)) (length out) ≡ Passed = rw (many, room) in
     ap (λ (x : Filled). x.answer) (read_is s out h e ∙ ap (λ (c : Check). filled_after c (canonical_file h (remaining h (content s))) out) both)
 
@@ -297,7 +297,7 @@ pub canonical-right : (s out : List ℕ) → Promise s out (canonical_of s out)
 canonical-right s out =
     record {
       kept = kept s out;
-      unless-stopped = unless-stopped s out;
+      unless_stopped = unless_stopped s out;
       form = λ h e n told.
           let g = formed s out n told in
           let same : g.header ≡ h = cc (g.read, e) in

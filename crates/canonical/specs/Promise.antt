@@ -27,7 +27,7 @@ pub record FormWritten (h : Header) (contents before after : List ℕ) (n : ℕ)
   -- "bytes after the output are unchanged"
   pub bytes : after ≡ automaton_file header rules ++ drop n before
   -- it reads without refusal, with this header and these rules
-  pub reads-back : ReadsBack header rules
+  pub reads_back : ReadsBack header rules
   -- "the same counts of states and symbols, the same three sets"
   pub counts : SameCounts h header
   pub number : header.rules ≡ length rules
@@ -42,7 +42,7 @@ pub record Promise (s before : List ℕ) (o : Filled) : Type 0 where
   -- "a refused call leaves every lent byte as it was"
   pub kept : (r : Refusal) → o.answer ≡ Written.Refused r → o.out ≡ before
   -- a file that reads is refused by 17 and 13 alone
-  pub unless-stopped : (h : Header) → parsed s ≡ Parsed.Read h
+  pub unless_stopped : (h : Header) → parsed s ≡ Parsed.Read h
       → let rules = remaining h (content s) in
       many_check (length rules) ≡ Passed → room_check (length (canonical_file h rules)) (length before) ≡ Passed
       → o.answer ≡ Written.Bytes (length (canonical_file h rules))

@@ -1,5 +1,7 @@
 // An automaton's file in its one form (document 02, W4): place 3 spread, repeats dropped, the rules in rising order of their five bytes. It is read
 // by document 01's table at all times, with `automaton::file::parse`.
+#![tactic(auto)]
+
 ghost use Rattle.std.specs.Prelude.{◌≡◌, List, ◌*◌, ◌%◌, ◌≤◌, length};
 ghost use Rattle.automaton.specs.File.{WithinLimits};
 ghost use Rattle.automaton.specs.Payload.{records_of};

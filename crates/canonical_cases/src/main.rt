@@ -1,6 +1,8 @@
 // Reads cases from standard input and writes a line for each: what writing an automaton's file in its one form gives, what the lent bytes are then,
 // and whether writing the form again changes anything. A case is five bytes (the length of its label; the lengths of the file and of the lent
 // bytes, low byte first), then the label and the file. tools/make_canonical_cases.py makes them.
+#![tactic(auto)]
+
 ghost use Rattle.std.specs.Prelude.{◌+◌, ◌<◌, ◌≤◌, length};
 
 use block_writer::Written;

@@ -2,6 +2,8 @@
 // once, and on some whose rules are about 512 or far more once place 3 is spread. Each is written into an output of the length needed, a longer or a
 // shorter one, then its form is written again, and then it is damaged. All lent bytes are compared. It writes the answers of each family, how many
 // records it had and how many rules remained, and how often the engine differs.
+#![tactic(auto)]
+
 use form_trials::counts::{AGAIN, COUNTS, DIFFERENCES, at, count_rules, print_all, print_families};
 use forms::{Expected, Form, expected_of, refused};
 use sampling::random::{draw, seed};

@@ -1,6 +1,8 @@
 // Reads cases from standard input and writes a line for each: what reading the automaton's file, and then the tree's file against it, gives.
 // A case is five bytes (the length of its label; the lengths of the two files, low byte first, a tree's 65535 standing for no file), then
 // the label and the files. tools/make_cases.py makes the cases and, from document 01 alone, the lines that are expected.
+#![tactic(auto)]
+
 ghost use Rattle.std.specs.Prelude.{◌+◌, ◌≤◌, length};
 
 use automaton::Header;

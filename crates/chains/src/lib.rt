@@ -1,5 +1,7 @@
 // The growth of closing, added up over the nodes of a tree (document 02, W9), by brute force: the pairs that are given at a node by exploring
 // configurations, the pairs of the closed table by following chains of given pairs. It shares no code or definition with the engine.
+#![tactic(auto)]
+
 use sampling::access::{has, only, word};
 use sampling::rules::Automaton;
 

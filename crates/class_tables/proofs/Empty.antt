@@ -3,7 +3,7 @@
 use Rattle.std.proofs.Common.{◌≡◌, ℕ, zero, suc, ◌+◌, ◌<◌, List, length, get_or, replicate, sym, refl, ◌∙◌, arith}
 use native.Mathlib.Decide.{dec_lt}
 use lib.ListN.{get_or-eq_default}
-use Rattle.relation.specs.Rows.{no_pairs}
+use Rattle.relation.specs.Rows.{no-pairs}
 use Rattle.model.specs.declared.Side.{Side}
 use Rattle.algorithms.specs.Automaton.{Automaton}
 use Rattle.overloops.proofs.Laws.{side-small, part-is}
@@ -24,25 +24,25 @@ all-zero l h i = by (dec_lt i (length l))
     by (no n) = get_or-eq_default l 0 {n = i} (omega arith)
 
 -- the relations of a class in a store of zeros
-pub no-pairs : (store : List ℕ) → length store ≡ 49152 → ((i : ℕ) → get_or store i 0 ≡ 0) → (s : Side) → rows_of store 0 s ≡ no_pairs
+pub no-pairs : (store : List ℕ) → length store ≡ 49152 → ((i : ℕ) → get_or store i 0 ≡ 0) → (s : Side) → rows_of store 0 s ≡ no-pairs
 unfolding rows_of
 no-pairs store e z s =
     let small = side-small s in
-    part-is store (rows_place 0 s) (omega arith) no_pairs refl (λ p h. z (rows_place 0 s + p) ∙ sym (zeros 24 p))
+    part-is store (rows_place 0 s) (omega arith) no-pairs refl (λ p h. z (rows_place 0 s + p) ∙ sym (zeros 24 p))
 
 pub empty : (A : Automaton) (counts store maps cells : List ℕ) → length counts ≡ 6 → length store ≡ 49152 → length maps ≡ 66560 → length cells ≡ 16384
-    → classes counts ≡ 1 → ((s : Side) → indices counts s ≡ 1) → ((s : Side) → rows_of store 0 s ≡ no_pairs) → ((i : ℕ) → get_or maps i 0 ≡ 0)
+    → classes counts ≡ 1 → ((s : Side) → indices counts s ≡ 1) → ((s : Side) → rows_of store 0 s ≡ no-pairs) → ((i : ℕ) → get_or maps i 0 ≡ 0)
     → ((i : ℕ) → get_or cells i 0 ≡ 0) → CachedIn A counts store maps cells
 empty A counts store maps cells lu ls lm lc one ones blank zm zc = record {
-  counts-size = lu;
-  store-size = ls;
-  maps-size = lm;
-  cells-size = lc;
+  counts_size = lu;
+  store_size = ls;
+  maps_size = lm;
+  cells_size = lc;
   some = omega arith;
   few = omega arith;
   blank = blank;
-  some-indices = λ s. omega (arith, ones s);
-  few-indices = λ s. omega (arith, ones s);
+  some_indices = λ s. omega (arith, ones s);
+  few_indices = λ s. omega (arith, ones s);
   indexed = λ s σ i b h. omega (arith, ones s, zm (index_place s σ i));
   none_yet = λ s σ i b h l. zm (index_place s σ i);
   alike = λ s σ σ' i j b b' hi hj some e. absurd (omega (arith, zm (index_place s σ i)));
@@ -53,20 +53,20 @@ empty A counts store maps cells lu ls lm lc one ones blank zm zc = record {
 pub kept-cache : (A : Automaton) (counts counts' store maps cells : List ℕ) → Kept counts counts' → CachedIn A counts store maps cells
     → CachedIn A counts' store maps cells
 kept-cache A counts counts' store maps cells kept k =
-    let n = kept.classes-are in
+    let n = kept.classes_are in
     record {
-      counts-size = kept.size ∙ k.counts-size;
-      store-size = k.store-size;
-      maps-size = k.maps-size;
-      cells-size = k.cells-size;
+      counts_size = kept.size ∙ k.counts_size;
+      store_size = k.store_size;
+      maps_size = k.maps_size;
+      cells_size = k.cells_size;
       some = rw n k.some;
       few = rw n k.few;
       blank = k.blank;
-      some-indices = λ s. rw (kept.indices-are s) (k.some-indices s);
-      few-indices = λ s. rw (kept.indices-are s) (k.few-indices s);
-      indexed = λ s σ i b h. rw (kept.indices-are s) (k.indexed s σ i b h);
+      some_indices = λ s. rw (kept.indices_are s) (k.some_indices s);
+      few_indices = λ s. rw (kept.indices_are s) (k.few_indices s);
+      indexed = λ s σ i b h. rw (kept.indices_are s) (k.indexed s σ i b h);
       none_yet = λ s σ i b h l. k.none_yet s σ i b h (rw (← n) l);
       alike = λ s σ σ' i j b b' hi hj. k.alike s σ σ' i j b b' (rw (← n) hi) (rw (← n) hj);
-      keyed = λ m x y some small e. rw (kept.indices-are Side.Left, kept.indices-are Side.Right) (k.keyed m x y some small e);
+      keyed = λ m x y some small e. rw (kept.indices_are Side.Left, kept.indices_are Side.Right) (k.keyed m x y some small e);
       right = λ m σ l r b hl hr e. rw n (k.right m σ l r b (rw (← n) hl) (rw (← n) hr) e);
     }

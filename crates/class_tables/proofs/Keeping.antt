@@ -55,7 +55,7 @@ module _ (A : Automaton) (counts store maps cells : List ℕ) (k : CachedIn A co
   cells' = set cells n cell
 
   after : (m : ℕ) → (get_or cells' m 0 ≡ cell) ⊎ (get_or cells' m 0 ≡ get_or cells m 0)
-  after m = by (stored cells n cell m (omega (arith, k.cells-size)) (ℕ_discrete m n))
+  after m = by (stored cells n cell m (omega (arith, k.cells_size)) (ℕ_discrete m n))
     where
       by : ((m ≡ n) × (get_or cells' m 0 ≡ cell)) ⊎ (get_or cells' m 0 ≡ get_or cells m 0) → (get_or cells' m 0 ≡ cell) ⊎ (get_or cells' m 0 ≡ get_or cells m 0)
       by (inl p) = inl p.1
@@ -75,7 +75,7 @@ module _ (A : Automaton) (counts store maps cells : List ℕ) (k : CachedIn A co
           → (0 < x) × (x < indices counts Side.Left) × (0 < y) × (y < indices counts Side.Right)
       by (inl p) =
           let is : key x y ≡ here = omega (arith, e, p, small) in
-          let more = k.few-indices Side.Right in
+          let more = k.few_indices Side.Right in
           let same-y : y ≡ index_at maps Side.Right σ r = omega (arith, is, right-used, more) in
           let same-x : x ≡ index_at maps Side.Left σ l = omega (arith, is, same-y) in
           rw (same-x, same-y) (some_left, left-used, some_right, right-used)
@@ -90,7 +90,7 @@ module _ (A : Automaton) (counts store maps cells : List ℕ) (k : CachedIn A co
       by (inl p) =
           let word : word_in (get_or cells' m 0) ≡ w = omega (arith, p, small) in
           let is : key (index_at maps Side.Left σ' l') (index_at maps Side.Right σ' r') ≡ here = omega (arith, e, p, small) in
-          let more = k.few-indices Side.Right in
+          let more = k.few_indices Side.Right in
           let used = k.indexed Side.Right σ' r' s' (omega (arith, k.few)) in
           let same-right : index_at maps Side.Right σ r ≡ index_at maps Side.Right σ' r' = omega (arith, is, right-used, used, more) in
           let same_left : index_at maps Side.Left σ l ≡ index_at maps Side.Left σ' l' = omega (arith, is, same-right) in
@@ -101,15 +101,15 @@ module _ (A : Automaton) (counts store maps cells : List ℕ) (k : CachedIn A co
 
   pub word_more : CachedIn A counts store maps cells'
   word_more = record {
-    counts-size = k.counts-size;
-    store-size = k.store-size;
-    maps-size = k.maps-size;
-    cells-size = length-set cells n cell ∙ k.cells-size;
+    counts_size = k.counts_size;
+    store_size = k.store_size;
+    maps_size = k.maps_size;
+    cells_size = length-set cells n cell ∙ k.cells_size;
     some = k.some;
     few = k.few;
     blank = k.blank;
-    some-indices = k.some-indices;
-    few-indices = k.few-indices;
+    some_indices = k.some_indices;
+    few_indices = k.few_indices;
     indexed = k.indexed;
     none_yet = k.none_yet;
     alike = k.alike;

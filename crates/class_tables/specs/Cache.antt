@@ -3,7 +3,7 @@
 -- of the indices of a node's two parts, over a word, which names the node's class and has its growths. Where a key stands among the cells does not matter.
 -- Interface: `index_at`, `key`, `word_under`, `Right`, `classes`, `indices`, `CachedIn`, `After`, `Kept`.
 use Rattle.std.specs.Prelude.{◌≡◌, ℕ, ◌+◌, ◌*◌, ◌/◌, ◌%◌, ◌<◌, ◌≤◌, cond, List, length, ◌==◌, slice_index}
-use Rattle.relation.specs.Rows.{no_pairs}
+use Rattle.relation.specs.Rows.{no-pairs}
 use Rattle.model.specs.declared.Side.{Side}
 use Rattle.algorithms.specs.Automaton.{Automaton}
 use Rattle.overloops.specs.Tables.{side_number}
@@ -43,17 +43,17 @@ indices counts s = slice_index counts (1 + side_number s)
 
 -- the lent tables are a cache of the automaton: every word is right, of whatever node its key is
 pub record CachedIn (A : Automaton) (counts store maps cells : List ℕ) : Type 0 where
-  pub counts-size : length counts ≡ 6
-  pub store-size : length store ≡ 49152
-  pub maps-size : length maps ≡ 66560
-  pub cells-size : length cells ≡ 16384
+  pub counts_size : length counts ≡ 6
+  pub store_size : length store ≡ 49152
+  pub maps_size : length maps ≡ 66560
+  pub cells_size : length cells ≡ 16384
   pub some : 0 < classes counts
   pub few : classes counts ≤ 1024
   -- class 0 is that of the parts of a leaf
-  pub blank : (s : Side) → rows_of store 0 s ≡ no_pairs
+  pub blank : (s : Side) → rows_of store 0 s ≡ no-pairs
   -- indices are in use; classes to come have none
-  pub some-indices : (s : Side) → 0 < indices counts s
-  pub few-indices : (s : Side) → indices counts s ≤ 65536
+  pub some_indices : (s : Side) → 0 < indices counts s
+  pub few_indices : (s : Side) → indices counts s ≤ 65536
   pub indexed : (s : Side) (σ i : ℕ) → σ < 32 → i < 1024 → index_at maps s σ i < indices counts s
   pub none_yet : (s : Side) (σ i : ℕ) → σ < 32 → i < 1024 → classes counts ≤ i → index_at maps s σ i ≡ 0
   -- an index is of one symbol, and classes that share it do the same there
@@ -74,5 +74,5 @@ pub record After (A : Automaton) (counts store counts' store' maps' cells' : Lis
 -- counts that stay but for those that the cache does not go by
 pub record Kept (counts counts' : List ℕ) : Type 0 where
   pub size : length counts' ≡ length counts
-  pub classes-are : classes counts' ≡ classes counts
-  pub indices-are : (s : Side) → indices counts' s ≡ indices counts s
+  pub classes_are : classes counts' ≡ classes counts
+  pub indices_are : (s : Side) → indices counts' s ≡ indices counts s

@@ -52,5 +52,5 @@ Same n store store' = (i : ℕ) (s : Side) → i < n → rows_of store' i s ≡ 
 pub record IsClass (n : ℕ) (store : List ℕ) (i : ℕ) (left right : List ℕ) : Type 0 where
   pub some : 0 < i
   pub known : i < n
-  pub left-rows : rows_of store i Side.Left ≡ left
-  pub right-rows : rows_of store i Side.Right ≡ right
+  pub left_rows : rows_of store i Side.Left ≡ left
+  pub right_rows : rows_of store i Side.Right ≡ right

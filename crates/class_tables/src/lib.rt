@@ -1,6 +1,8 @@
 // The lent tables of lazy determinization: the classes of trees, numbered as they are met, their indices at each symbol on each side, words of
 // nodes, under the keys of two indices, and hints at classes. A class is a tree's overloops as a left and as a right part. A word names a class
 // and has two growths of closing, as a left and as a right part.
+#![tactic(auto)]
+
 ghost use Rattle.std.specs.Prelude.{◌≡◌, ℕ, ◌+◌, ◌<◌, ◌≤◌, List, slice_index};
 ghost use Rattle.algorithms.specs.Automaton.{Automaton};
 ghost use Rattle.overloops.specs.Tables.{Put};

@@ -1,4 +1,6 @@
 // The class of a tree: its overloops as a left part and as a right part. Equivalent trees are those of the same class.
+#![tactic(auto)]
+
 ghost use Rattle.std.specs.Prelude.{◌≡◌, ◌<◌, ◌≤◌};
 ghost use Rattle.algorithms.specs.Automaton.{Automaton, Proper};
 ghost use Rattle.algorithms.specs.Saturate.{same_parts, algebra_of};
@@ -12,7 +14,7 @@ use overloops::{LeafTable, leaf_loops, leaf_overloops, node_loops, node_overloop
 use relation::Relation;
 use transitions::TransitionTable;
 
-#[derive(Drop)]
+#[derive(Clone, Copy)]
 pub struct Class {
     pub left: Relation,
     pub right: Relation,

@@ -1,6 +1,8 @@
 // Turns an element text into a tree's file (document 02, W6). Standard input has the length of an automaton's file in two bytes, low byte first, the
 // file, and the text; the tree's file goes to standard output. Where it is refused, or the output is lost, a line on standard error says why
 // (tools/compose makes the input, and a status of what is said).
+#![tactic(auto)]
+
 use block_writer::Written;
 use refusal::Refusal;
 

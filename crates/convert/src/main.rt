@@ -1,5 +1,7 @@
 // Writes an automaton's file in its one form (document 02, W4): the file comes from standard input, and the form goes to standard output. Where it is
 // refused, or the output is lost, a line on standard error says why (tools/convert makes a status of it).
+#![tactic(auto)]
+
 use block_writer::Written;
 use refusal::Refusal;
 

@@ -1,11 +1,13 @@
 // Answers as numbers, three for each tree, counted onto a tally.
+#![tactic(auto)]
+
 ghost use Rattle.std.specs.Prelude.{◌≡◌, drop};
 ghost use Rattle.counting.specs.Counting.{outcome_numbered, turn_at, counted_all};
 
 use tally::{Outcome, Tally, count};
 
 // What the answers have at a place: no whole answer; or one, by its outcome and the place after it.
-#[derive(Drop)]
+#[derive(Clone, Copy)]
 pub enum Turn {
     End,
     Answer(Outcome, usize),

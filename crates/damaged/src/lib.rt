@@ -1,12 +1,14 @@
 // Damaged files of automata by chance, each with the refusal that document 01 has for it, from the way it was damaged: nothing reads the file.
 // It shares no code or definition with the engine.
+#![tactic(auto)]
+
 use sampling::random::{chance, draw};
 use sampling::rules;
 use sampling::rules::Automaton;
 use search::files;
 
 // A file's length, and the number and the place of the refusal.
-#[derive(Drop)]
+#[derive(Clone, Copy)]
 pub struct Damaged {
     pub length: usize,
     pub number: usize,

@@ -1,5 +1,7 @@
 // Files of trees, right and damaged. A damaged one has the refusal that document 01 has for it, from the way it was damaged: nothing reads
 // the file. It has nothing of the engine.
+#![tactic(auto)]
+
 ghost use Rattle.std.specs.Prelude.{◌≤◌};
 
 use damaged::Damaged;
@@ -66,7 +68,7 @@ fn wrong_length(random: &mut u64, file: &mut [u8], n: usize, size: usize) -> Dam
 }
 
 // A byte of the contents that is another, its value, and the refusal.
-#[derive(Drop)]
+#[derive(Clone, Copy)]
 struct Change {
     offset: usize,
     value: usize,

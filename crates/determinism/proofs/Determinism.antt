@@ -127,12 +127,12 @@ pub single-has : (rules : List Rule) → (single rules ≡ true) ↔ Single (λ 
 single-has rules = (
   λ e.
       record {
-        one-rule = λ a b m k x y z.
+        one_rule = λ a b m k x y z.
             of-single rules e a b m k (record { symbol = ap (λ (s : Symbol). s.0) x; state = ap (λ (s : State). s.0) y; scope = z });
       },
   λ one.
       to-single rules
-      (λ a b m k meeting. one.one-rule a b m k (λ i. record { 0 = meeting.symbol i }) (λ i. record { 0 = meeting.state i }) meeting.scope),
+      (λ a b m k meeting. one.one_rule a b m k (λ i. record { 0 = meeting.symbol i }) (λ i. record { 0 = meeting.state i }) meeting.scope),
 )
 
 -- ---- the paper's Definition 19
@@ -141,7 +141,7 @@ pub single-deterministic : (h : Header) (content : List ℕ) → (single (spread
 single-deterministic h content = (
   λ e.
       record {
-        one-transition = λ {σ} {p} {τ} {μ} {μ'} {q} {q'} d d'.
+        one_transition = λ {σ} {p} {τ} {μ} {μ'} {q} {q'} d d'.
             let same = of-single (spread_rules h content) e (rule σ p (Scope.Only τ) μ q) (rule σ p (Scope.Only τ) μ' q')
             ((spread-transition h content σ p τ μ q).1 d) ((spread-transition h content σ p τ μ' q').1 d') (record { symbol = refl; state = refl; scope = refl }) in
             (ap (λ (r : Rule). r.step) same, ap (λ (r : Rule). r.next.0) same);
@@ -154,7 +154,7 @@ single-deterministic h content = (
         let scopes : Scope.Only x.0 ≡ Scope.Only y.0 = sym x.1 ∙ meeting.scope ∙ y.1 in
         let place : y.0 ≡ x.0 = cc in
         let e = rw (place, ← meeting.symbol, ← meeting.state) at y.2 in
-        let one-step = one.one-transition x.2 e in
+        let one-step = one.one_transition x.2 e in
         rule-same a b meeting.symbol meeting.state meeting.scope one-step.0 one-step.1
 
 -- ---- the compiled transitions
@@ -236,7 +236,7 @@ pub determined-has : (A : Automaton) → Inside A → (determined A ≡ true) �
 determined-has A inside = (
   λ e.
       record {
-        one-transition = λ {σ} {p} {τ} {μ} {μ'} {q} {q'} d d'.
+        one_transition = λ {σ} {p} {τ} {μ} {μ'} {q} {q'} d d'.
             let in-range = inside σ p τ μ q d in
             let symbol = (each-has (one_places A.next A.states) A.symbols).0 e σ in-range.0 in
             let state = (each-has (one_choice A.next σ τ) A.states).0 ((places-has A.next A.states σ).0 symbol τ) p in-range.1 in
@@ -246,7 +246,7 @@ determined-has A inside = (
       (each-has (one_places A.next A.states) A.symbols).1 (λ σ _.
       (places-has A.next A.states σ).1 (λ τ.
       (each-has (one_choice A.next σ τ) A.states).1 (λ p _.
-      (choice-has A inside σ τ p).1 (λ μ ν q r d d'. one.one-transition d d')))),
+      (choice-has A inside σ τ p).1 (λ μ ν q r d d'. one.one_transition d d')))),
 )
 
 -- two tests of one fact are equal
@@ -272,7 +272,7 @@ module _ (h : Header) (content : List ℕ) where
 -- what the cells of an automaton's table tell
 pub table-determined : (A : Automaton) (t : List ℕ) → Compiled A t → A.symbols ≤ 32 → A.states ≤ 24 → one_symbols (next_in t) A.states A.symbols ≡ determined A
 unfolding one_places one_choice
-table-determined A t compiled few-symbols few-states =
+table-determined A t compiled few_symbols few-states =
     each_same (one_places (next_in t) A.states) (one_places A.next A.states) A.symbols (λ σ l.
     let at : (τ : Place) → one_each (next_in t) σ τ A.states ≡ one_each A.next σ τ A.states
     = λ τ. each_same (one_choice (next_in t) σ τ) (one_choice A.next σ τ) A.states (λ p k.

@@ -49,7 +49,7 @@ single-right s h e =
     (record {
       rules = (λ f. (single-has rules).0 (told.0 f), λ one. told.1 ((single-has rules).1 one));
       deterministic = (λ f. (single-deterministic h (content s)).0 (told.0 f), λ one. told.1 ((single-deterministic h (content s)).1 one));
-      no-refusal = not-refused (single rules);
+      no_refusal = not-refused (single rules);
     })
 
 -- lists with the same members are single together
@@ -59,7 +59,7 @@ same-single xs ys same =
     (λ e. among (λ r. (same r).0) ((single-has ys).0 e), λ one. (single-has ys).1 (among (λ r. (same r).1) one))
   where
     among : {xs ys : List Rule} → ((r : Rule) → r ∈ xs → r ∈ ys) → Single (λ (r : Rule). r ∈ ys) → Single (λ (r : Rule). r ∈ xs)
-    among f one = record { one-rule = λ a b m k. one.one-rule a b (f a m) (f b k) }
+    among f one = record { one_rule = λ a b m k. one.one_rule a b (f a m) (f b k) }
 
 -- ---- "No run changes, since a rule met twice allows the same step."
 

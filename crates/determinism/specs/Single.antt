@@ -10,7 +10,7 @@ use Rattle.determinism.specs.declared.Singleness.{Singleness}
 
 -- of a set of rules: two with the same symbol, state and place are one
 pub record Single (rules : Rule → Type 0) : Type 0 where
-  pub one-rule : (a b : Rule) → rules a → rules b → a.symbol ≡ b.symbol → a.state ≡ b.state → a.scope ≡ b.scope → a ≡ b
+  pub one_rule : (a b : Rule) → rules a → rules b → a.symbol ≡ b.symbol → a.state ≡ b.state → a.scope ≡ b.scope → a ≡ b
 
 -- ---- the same, computed (`Determinism.single-has`)
 

@@ -22,7 +22,7 @@ pub record Singles (h : Header) (contents : List ℕ) (r : Singleness) : Type 0 
   -- .. which is where a symbol, a state and a place have at most one transition
   pub deterministic : (r ≡ Singleness.Single) ↔ Deterministic (Δ (automaton_of h contents))
   -- else it is not single, and is not refused
-  pub no-refusal : (x : Refusal) → ¬ (r ≡ Singleness.Refused x)
+  pub no_refusal : (x : Refusal) → ¬ (r ≡ Singleness.Refused x)
 
 abbrev pub SingleRight : (file : List ℕ) → Singleness → Type 0
 SingleRight s r = (h : Header) → parsed s ≡ Parsed.Read h → Singles h (content s) r

@@ -1,4 +1,6 @@
 // Whether an automaton is single. Its compiled transitions are its spread rules, each once: it is single where they are deterministic.
+#![tactic(auto)]
+
 ghost use Rattle.std.specs.Prelude.{◌≡◌, ◌<◌, ◌≤◌};
 ghost use Rattle.std.specs.Int.Count.{ones};
 ghost use Rattle.algorithms.specs.Automaton.{Automaton};
@@ -15,7 +17,7 @@ use refusal::Refusal;
 use transitions::{TransitionTable, cell};
 
 // What is told of a file: whether its automaton is single, or its refusal.
-#[derive(Drop)]
+#[derive(Clone, Copy)]
 pub enum Singleness {
     Single,
     Multiple,

@@ -16,8 +16,8 @@ use Rattle.class_tables.specs.Cache.{index_at, word_in, Right, classes, indices,
 -- counts that stay but for what is said
 pub record Counted (counts counts' : List ℕ) (n : ℕ) : Type 0 where
   pub size : length counts' ≡ 6
-  pub classes-are : classes counts' ≡ n
-  pub indices-are : (s : Side) → indices counts' s ≡ indices counts s
+  pub classes_are : classes counts' ≡ n
+  pub indices_are : (s : Side) → indices counts' s ≡ indices counts s
 
 module _ (A : Automaton) (counts counts' store store' maps cells : List ℕ) (k : CachedIn A counts store maps cells) (room : classes counts < 1024)
     (counted : Counted counts counts' (classes counts + 1)) (size : length store' ≡ 49152) (same : Same (classes counts) store store') where
@@ -40,27 +40,27 @@ module _ (A : Automaton) (counts counts' store store' maps cells : List ℕ) (k 
 
   pub class-more : CachedIn A counts' store' maps cells
   class-more =
-      let n = counted.classes-are in
+      let n = counted.classes_are in
       record {
-        counts-size = counted.size;
-        store-size = size;
-        maps-size = k.maps-size;
-        cells-size = k.cells-size;
+        counts_size = counted.size;
+        store_size = size;
+        maps_size = k.maps_size;
+        cells_size = k.cells_size;
         some = omega arith;
         few = omega arith;
         blank = λ s. same 0 s k.some ∙ k.blank s;
-        some-indices = λ s. rw (counted.indices-are s) (k.some-indices s);
-        few-indices = λ s. rw (counted.indices-are s) (k.few-indices s);
-        indexed = λ s σ i b h. rw (counted.indices-are s) (k.indexed s σ i b h);
+        some_indices = λ s. rw (counted.indices_are s) (k.some_indices s);
+        few_indices = λ s. rw (counted.indices_are s) (k.few_indices s);
+        indexed = λ s σ i b h. rw (counted.indices_are s) (k.indexed s σ i b h);
         none_yet = λ s σ i b h l. k.none_yet s σ i b h (omega arith);
         alike = λ s σ σ' i j b b' hi hj some e.
             let oi = older s σ i b (omega arith) some in
             let oj = older s σ' j b' (omega arith) (omega arith) in
             let h = k.alike s σ σ' i j b b' oi oj some e in
             (h.0, same_alike σ i j s oi oj h.1);
-        keyed = λ m x y some small e. rw (counted.indices-are Side.Left, counted.indices-are Side.Right) (k.keyed m x y some small e);
+        keyed = λ m x y some small e. rw (counted.indices_are Side.Left, counted.indices_are Side.Right) (k.keyed m x y some small e);
         right = λ m σ l r b hl hr e some.
-            let used = k.keyed m _ _ some (omega (arith, k.indexed Side.Right σ r b (omega arith), k.few-indices Side.Right)) e in
+            let used = k.keyed m _ _ some (omega (arith, k.indexed Side.Right σ r b (omega arith), k.few_indices Side.Right)) e in
             let ol = older Side.Left σ l b (omega arith) used.0 in
             let or = older Side.Right σ r b (omega arith) used.2 in
             let h = k.right m σ l r b ol or e some in
@@ -70,6 +70,6 @@ module _ (A : Automaton) (counts counts' store store' maps cells : List ℕ) (k 
 pub class-counted : (counts : List ℕ) → length counts ≡ 6 → Counted counts (set counts 0 (classes counts + 1)) (classes counts + 1)
 class-counted counts e = record {
   size = length-set counts 0 (classes counts + 1) ∙ e;
-  classes-are = get_or-set_same counts 0 (classes counts + 1) 0 (omega arith);
-  indices-are = λ s. get_or-set_other counts 0 (1 + side_number s) (classes counts + 1) 0 (λ e. omega arith);
+  classes_are = get_or-set_same counts 0 (classes counts + 1) 0 (omega arith);
+  indices_are = λ s. get_or-set_other counts 0 (1 + side_number s) (classes counts + 1) 0 (λ e. omega arith);
 }

@@ -52,18 +52,18 @@ pub class-added : (A : Automaton) (counts store store₁ store₂ maps cells lef
     × IsClass (classes (set counts 0 (classes counts + 1))) store₂ (classes counts) left right
 class-added A counts store store₁ store₂ maps cells left right k room hl hr x y =
     let n = classes counts in
-    let counted = class-counted counts k.counts-size in
-    let same = put_same n left right store store₁ store₂ k.store-size room hl hr x y in (
+    let counted = class-counted counts k.counts_size in
+    let same = put_same n left right store store₁ store₂ k.store_size room hl hr x y in (
       record {
-        cached = class-more A counts (set counts 0 (n + 1)) store store₂ maps cells k room counted (both-size n left right store store₁ store₂ k.store-size room hl hr x y) same;
+        cached = class-more A counts (set counts 0 (n + 1)) store store₂ maps cells k room counted (both-size n left right store store₁ store₂ k.store_size room hl hr x y) same;
         same = same;
-        more = omega (arith, counted.classes-are);
+        more = omega (arith, counted.classes_are);
       },
       record {
         some = k.some;
-        known = omega (arith, counted.classes-are);
-        left-rows = put-left n left right store store₁ store₂ k.store-size room hl hr x y;
-        right-rows = put_right n left right store store₁ store₂ k.store-size room hl hr x y;
+        known = omega (arith, counted.classes_are);
+        left_rows = put-left n left right store store₁ store₂ k.store_size room hl hr x y;
+        right_rows = put_right n left right store store₁ store₂ k.store_size room hl hr x y;
       },
     )
 
@@ -106,5 +106,5 @@ node-computed A σ l r i w g h counts counts' store store' maps cells cells' x y
     let more = after.more in
     let known : id_of w < classes counts' = omega (arith, is.known, has.0) in
     let node : Node A store' σ l r w =
-    node-is A σ l r i w g h store store' x y is.left-rows is.right-rows (after.same l Side.Left hl) (after.same r Side.Right hr) has px py in
+    node-is A σ l r i w g h store store' x y is.left_rows is.right_rows (after.same l Side.Left hl) (after.same r Side.Right hr) has px py in
     (record { cached = keep after.cached (omega arith) (omega arith) known node; same = after.same; more = more }, λ some. (known, node))

@@ -1,5 +1,7 @@
 // Lazy determinization: the class of a node over parts of two classes, and its growths of closing, looked up under the indices of its parts, or
 // computed and kept.
+#![tactic(auto)]
+
 ghost use Rattle.std.specs.Prelude.{◌≡◌, true, List, ℕ, ◌+◌, ◌<◌, ◌≤◌};
 ghost use Rattle.model.specs.declared.Place.{Place};
 ghost use Rattle.algorithms.specs.Automaton.{Automaton};

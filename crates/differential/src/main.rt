@@ -1,6 +1,8 @@
 // Compares the engine with a brute-force run on pairs of an automaton and a tree by chance. A pair is made from its number alone, as data;
 // the brute force works on the data, the engine on the two files that are written from it. Some files are damaged, and have to be refused.
 // It writes the verdicts that the brute force gives for each family of automata and each shape of trees, and how often the engine differs.
+#![tactic(auto)]
+
 use generated::families;
 use membership::Answer;
 use sampling::access::number;
@@ -13,7 +15,7 @@ use search::{files, trees, walk};
 const PAIRS: usize = 3000;
 
 // What is said of a pair of files: accepted (0), other (1), or refused (2) with the refusal's number, file and place.
-#[derive(Drop)]
+#[derive(Clone, Copy)]
 struct Verdict {
     kind: usize,
     number: usize,
@@ -22,7 +24,7 @@ struct Verdict {
 }
 
 // What was expected of a pair and what the engine found, with the shape of its tree.
-#[derive(Drop)]
+#[derive(Clone, Copy)]
 struct Outcome {
     shape: usize,
     expected: Verdict,

@@ -92,7 +92,7 @@ module _ (A : Automaton) (P : Proper A) (before : List ℕ) where
       let f = found_back (saturation_of A) h rows e in
       record {
         plan = f.0;
-        is-surveys = f.1;
+        is_surveys = f.1;
         witness = correct.witness h f.0 f.1;
         rows_told = f.2;
         bytes = bytes-written (saturation_of A) h rows f.0 before f.1 f.2;
@@ -103,14 +103,14 @@ module _ (A : Automaton) (P : Proper A) (before : List ℕ) where
       record {
         N = λ h. (count-exists A P (suc h)).0;
         counts = λ h. counts-is A P (suc h) _ (count-exists A P (suc h)).1;
-        counts-none = counts-is A P 0 0 (none-counted A P);
+        counts_none = counts-is A P 0 0 (none-counted A P);
         found = λ h. (
-          λ x. let f = found_back (saturation_of A) h x.0 x.1 in (correct.says-found h).0 (f.0, f.1),
-          λ a. let f = (correct.says-found h).1 a in (length f.0, ap survey_of f.1),
+          λ x. let f = found_back (saturation_of A) h x.0 x.1 in (correct.says_found h).0 (f.0, f.1),
+          λ a. let f = (correct.says_found h).1 a in (length f.0, ap survey_of f.1),
         );
         plan = planned;
-        open-says = λ h. (λ e. (correct.says-open h).0 (open-back (saturation_of A) h e), λ a. ap survey_of ((correct.says-open h).1 a));
-        empty = λ h. (λ e. (correct.says-empty h).0 (empty_back (saturation_of A) h e), λ a. ap survey_of ((correct.says-empty h).1 a));
+        open_says = λ h. (λ e. (correct.says_open h).0 (open-back (saturation_of A) h e), λ a. ap survey_of ((correct.says_open h).1 a));
+        empty = λ h. (λ e. (correct.says_empty h).0 (empty_back (saturation_of A) h e), λ a. ap survey_of ((correct.says_empty h).1 a));
         height = height-told (saturation_of A) correct.told;
         kept = buffer-kept (saturation_of A) before;
       }
@@ -146,7 +146,7 @@ approximates A P =
       least = parts-least A P;
       clear = clear_told (clear? A) (clear-has A P);
       unsure = unsure-told (clear? A) (clear-has A P);
-      no-refusal = not-refused (clear? A);
+      no_refusal = not-refused (clear? A);
       sound = λ e. clear-sound A P (clear-is (clear? A) e);
     }
 

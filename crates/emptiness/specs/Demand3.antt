@@ -23,7 +23,7 @@ use Rattle.emptiness.specs.declared.Quick.{Quick}
 pub record Planned (A : Automaton) (h rows : ℕ) (before after : List ℕ) : Type 0 where
   -- "The plan it then wrote is the one of document 01's survey" ..
   pub plan : List WitnessRow
-  pub is-surveys : saturation_of A ≡ Found h plan
+  pub is_surveys : saturation_of A ≡ Found h plan
   -- .. "has N(h-1) + 1 rows and builds a tree of height h that passes."
   pub witness : WitnessFor (alphabet_of A) (language_of A) h plan
   pub rows_told : rows ≡ length plan
@@ -42,12 +42,12 @@ pub record Surveys (A : Automaton) (before : List ℕ) (o : Answered) : Type 0 w
   -- "N(h) counts the trees of height at most h, alike ones once, and N(-1) is 0." Each is one number: what is counted is N(h), and nothing else.
   pub N : ℕ → ℕ
   pub counts : (h n : ℕ) → Counts (alphabet_of A) (language_of A) (suc h) n ↔ (n ≡ N h)
-  pub counts-none : (n : ℕ) → Counts (alphabet_of A) (language_of A) 0 n ↔ (n ≡ 0)
+  pub counts_none : (n : ℕ) → Counts (alphabet_of A) (language_of A) 0 n ↔ (n ≡ 0)
   -- "The survey says Found h exactly when a tree of height h passes, none lower does and N(h-1) is at most 64."
   pub found : (h : ℕ) → ((rows : ℕ) × (o.answer ≡ Survey.Found h rows)) ↔ FoundAt (alphabet_of A) (language_of A) 64 h
   pub plan : (h rows : ℕ) → o.answer ≡ Survey.Found h rows → Planned A h rows before o.buffer
   -- "The survey says Open h exactly when h is the least with N(h) over 64 and no tree of height at most h passes."
-  pub open-says : (h : ℕ) → (o.answer ≡ Survey.Open h) ↔ OpenAt (alphabet_of A) (language_of A) 64 h
+  pub open_says : (h : ℕ) → (o.answer ≡ Survey.Open h) ↔ OpenAt (alphabet_of A) (language_of A) 64 h
   -- "It says Empty h exactly when no tree of any size passes, no N(i) is over 64 and h is the least with N(h) = N(h-1)."
   pub empty : (h : ℕ) → (o.answer ≡ Survey.Empty h) ↔ EmptyAt (alphabet_of A) (language_of A) 64 h
   -- "It gives no fourth answer, and the height told is at most 64."
@@ -72,7 +72,7 @@ pub record Approximates (A : Automaton) (answer : Quick) : Type 0 where
   -- .. and the answer is "Clear if the root set has no way up from a start state to acceptance, else Unsure" (document 01), and no refusal.
   pub clear : (answer ≡ Quick.Clear) ↔ NoWayUp A sets
   pub unsure : (answer ≡ Quick.Unsure) ↔ (¬ NoWayUp A sets)
-  pub no-refusal : (r : Refusal) → ¬ (answer ≡ Quick.Refused r)
+  pub no_refusal : (r : Refusal) → ¬ (answer ≡ Quick.Refused r)
   -- "Wherever it says Clear, no tree of any size passes."
   pub sound : answer ≡ Quick.Clear → (t : Tree) → Over (alphabet_of A) t → ¬ Accepted A t
 

@@ -1,12 +1,14 @@
 // Emptiness: whether an automaton accepts any tree. `file` has the two public functions, document 01's survey and quick check; specs/ has the
 // definitions of their answers, and the proof that these meet demand 3. The rounds are the crate `saturation`, the least sets `approximation`.
+#![tactic(auto)]
+
 pub mod file;
 mod plan;
 
 use refusal::Refusal;
 
 // What the survey answers: a height, with the number of rows of the plan where a tree was found; or a refusal.
-#[derive(Drop)]
+#[derive(Clone, Copy)]
 pub enum Survey {
     Found { height: usize, rows: usize },
     Open(usize),
@@ -15,7 +17,7 @@ pub enum Survey {
 }
 
 // What the quick check answers: no tree is accepted, or that is not known; or a refusal.
-#[derive(Drop)]
+#[derive(Clone, Copy)]
 pub enum Quick {
     Clear,
     Unsure,

@@ -1,4 +1,6 @@
 // The engine's public functions, over the bytes of files; none asks anything of its caller. `numbers` has the same for Rust and C.
+#![tactic(auto)]
+
 pub mod numbers;
 
 ghost use Rattle.std.specs.Prelude.{◌≡◌};

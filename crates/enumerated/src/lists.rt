@@ -17,7 +17,7 @@ pub const NONE: usize = 255;
 pub const UNKNOWN: usize = 65535;
 
 // What the list tells: it has all trees of heights below `heights`; the least height of an accepted one.
-#[derive(Drop)]
+#[derive(Clone, Copy)]
 pub struct List {
     pub heights: usize,
     pub first: usize,

@@ -2,6 +2,8 @@
 // and the tree judged by runs; and all trees of small heights are listed and judged, which tells the least height of an accepted tree and, by
 // the overloops of runs, how many classes there are. Some buffers are too short and some files damaged, and have to be refused. It writes the
 // verdicts for each family of automata, the heights found, document 01's case of 256 classes, and how often an answer was wrong.
+#![tactic(auto)]
+
 use emptiness::{Quick, Survey};
 use enumerated::{lists, plan};
 use sampling::access::number;

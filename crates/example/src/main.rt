@@ -1,5 +1,7 @@
 // Writes the letter that Found means: an automaton's file comes from standard input, and the file of a tree that it accepts goes to standard
 // output. Where there is none, or the output is lost, a line on standard error says why (tools/example makes a status of it).
+#![tactic(auto)]
+
 use block_writer::Written;
 use emptiness::Survey;
 use refusal::Refusal;

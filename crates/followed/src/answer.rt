@@ -8,7 +8,7 @@ use sampling::rules::Automaton;
 pub const REFUSED: usize = 4;
 
 // How a run ends and its steps or, kind 4, a refusal's number, file and place.
-#[derive(Drop)]
+#[derive(Clone, Copy)]
 pub struct Expected {
     pub kind: usize,
     pub steps: usize,
@@ -38,7 +38,7 @@ pub fn ended(kind: usize, steps: usize) -> Expected {
 }
 
 // What is asked: the two files with their refusals, number 0 for a right one, the budget and the log's length.
-#[derive(Drop)]
+#[derive(Clone, Copy)]
 pub struct Question {
     pub automaton: Damaged,
     pub tree: Damaged,

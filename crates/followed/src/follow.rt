@@ -15,13 +15,13 @@ pub const SPENT: usize = 3;
 const GOES_ON: usize = 4;
 
 // How a run ended, and after how many steps.
-#[derive(Drop)]
+#[derive(Clone, Copy)]
 pub struct Ending {
     pub kind: usize,
     pub steps: usize,
 }
 
-#[derive(Drop)]
+#[derive(Clone, Copy)]
 pub struct Position {
     pub node: usize,
     pub state: usize,

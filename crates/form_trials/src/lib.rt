@@ -1,5 +1,7 @@
 // A file's one form as the engine writes it into an output of some length, and whether the answer and all bytes of the output are what is expected;
 // and what was answered, counted and written (`counts`).
+#![tactic(auto)]
+
 pub mod counts;
 
 use block_writer::Written;

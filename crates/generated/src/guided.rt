@@ -7,7 +7,7 @@ use search::trees;
 use search::walk::target;
 
 // How rules are made along a walk: at most one for each symbol, state and place; place 3 in so many of eight.
-#[derive(Drop)]
+#[derive(Clone, Copy)]
 pub struct Style {
     pub single: bool,
     pub all_places: usize,
@@ -21,7 +21,7 @@ impl Style {
 
 // A walk through the tree from the root, along which rules are made, and the greatest depth that it came to. It is over in the last state,
 // the goal.
-#[derive(Drop)]
+#[derive(Clone, Copy)]
 struct Walk {
     node: usize,
     state: usize,

@@ -1,5 +1,7 @@
 // Element texts (document 02, W6): where one goes wrong, and the nodes of its tree in preorder. An element is read through its run, and a run
 // through its elements.
+#![tactic(auto)]
+
 ghost use Rattle.std.specs.Prelude.{◌≡◌, ◌+◌, ◌*◌, ◌<◌, ◌≤◌, length, get_or};
 ghost use Rattle.tags.specs.Classes.{IsTable};
 ghost use Rattle.tags.specs.Tags.{nodes_in};
@@ -12,7 +14,7 @@ use tags::{DIGIT, GREATER, LESS, SLASH, SPACE, class_in, class_table};
 const NONE: u8 = 6;
 
 // The place after what was read, or the first place at which nothing could be right; or elements open more levels than may be.
-#[derive(Drop)]
+#[derive(Clone, Copy)]
 pub enum Reading {
     To(usize),
     Wrong(usize),
@@ -20,21 +22,21 @@ pub enum Reading {
 }
 
 // A closing tag: the place after it.
-#[derive(Drop)]
+#[derive(Clone, Copy)]
 pub enum Closing {
     To(usize),
     Wrong(usize),
 }
 
 // An opening tag: its number and the place after it.
-#[derive(Drop)]
+#[derive(Clone, Copy)]
 pub enum Opening {
     Named(u8, usize),
     Wrong(usize),
 }
 
 // What a text is: a tree of so many nodes; or where it goes wrong.
-#[derive(Drop)]
+#[derive(Clone, Copy)]
 pub enum Parse {
     Nodes(usize),
     Wrong(usize),
@@ -224,7 +226,7 @@ fn run(
 }
 
 // A tag: an opening one with its number, or the closing one of the innermost element that is open, and the place after it.
-#[derive(Drop)]
+#[derive(Clone, Copy)]
 pub enum Step {
     Opens(u8, usize),
     Closes(usize),

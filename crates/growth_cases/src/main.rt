@@ -1,6 +1,8 @@
 // Reads cases from standard input and writes a line for each: what judging a tree by an automaton answers, and the sum of the growths of closing.
 // A case is five bytes (the length of its label, one byte; the lengths of the automaton's and of the tree's file, two each, low byte first), then the
 // label and the files. A file's length with 32768 added stands for the file of the case before. tools/make_growth_cases.py makes them.
+#![tactic(auto)]
+
 ghost use Rattle.std.specs.Prelude.{◌+◌, ◌≤◌, length};
 
 use membership::Answer;

@@ -2,6 +2,8 @@
 // chains of pairs, and the verdict with a search. A pair of an automaton and a tree is made from its number alone; every second pair has one of its
 // files damaged, and has to be refused with sum 0. It writes for each family of automata the pairs, their verdicts, the sum by brute force over all of
 // them, and how often the engine differs.
+#![tactic(auto)]
+
 use crate::counts::COUNTS;
 use crate::told::{Told, judged, refused};
 use damaged::Damaged;

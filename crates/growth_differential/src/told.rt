@@ -1,5 +1,5 @@
 // What is said of a pair of files: accepted (0), other (1), or refused (2) with the refusal's number, file and place; and the sum.
-#[derive(Drop)]
+#[derive(Clone, Copy)]
 pub struct Told {
     pub kind: usize,
     pub number: usize,

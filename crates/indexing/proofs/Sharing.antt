@@ -45,7 +45,7 @@ module _ (A : Automaton) (counts counts' store maps cells : List ℕ) (k : Cache
     pub is : index_at maps' s' σ' j ≡ v
 
   index-after : (s' : Side) (σ' j : ℕ) → σ' < 32 → j < 1024 → Here s' σ' j ⊎ (index_at maps' s' σ' j ≡ index_at maps s' σ' j)
-  index-after s' σ' j b' hj = by (stored maps place v (index_place s' σ' j) (omega (arith, k.maps-size, k.few, side-small s)) (ℕ_discrete (index_place s' σ' j) place))
+  index-after s' σ' j b' hj = by (stored maps place v (index_place s' σ' j) (omega (arith, k.maps_size, k.few, side-small s)) (ℕ_discrete (index_place s' σ' j) place))
     where
       by : ((index_place s' σ' j ≡ place) × (index_at maps' s' σ' j ≡ v)) ⊎ (index_at maps' s' σ' j ≡ index_at maps s' σ' j)
           → Here s' σ' j ⊎ (index_at maps' s' σ' j ≡ index_at maps s' σ' j)
@@ -105,15 +105,15 @@ module _ (A : Automaton) (counts counts' store maps cells : List ℕ) (k : Cache
   index-set =
       let n = same-classes in
       record {
-        counts-size = size;
-        store-size = k.store-size;
-        maps-size = length-set maps place v ∙ k.maps-size;
-        cells-size = k.cells-size;
+        counts_size = size;
+        store_size = k.store_size;
+        maps_size = length-set maps place v ∙ k.maps_size;
+        cells_size = k.cells_size;
         some = rw n k.some;
         few = rw n k.few;
         blank = k.blank;
-        some-indices = λ s. omega (arith, more s, k.some-indices s);
-        few-indices = few;
+        some_indices = λ s. omega (arith, more s, k.some_indices s);
+        few_indices = few;
         indexed = indexed-after;
         none_yet = λ s' σ' j b' hj l. none_after s' σ' j b' hj (rw (← n) l);
         alike = λ s' σ₁ σ₂ x y b₁ b₂ hx hy. alike-after s' σ₁ σ₂ x y b₁ b₂ (rw (← n) hx) (rw (← n) hy);
@@ -128,7 +128,7 @@ pub index-shared : (A : Automaton) (counts store maps cells : List ℕ) → Cach
     → i < classes counts → j < classes counts → 0 < index_at maps s σ j → Alike A store σ s j i
     → CachedIn A counts store (set maps (index_place s σ i) (index_at maps s σ j)) cells
 index-shared A counts store maps cells k s σ i j b hi hj some same =
-    index-set A counts counts store maps cells k s σ i (index_at maps s σ j) b hi k.counts-size refl (λ s. omega arith) k.few-indices some
+    index-set A counts counts store maps cells k s σ i (index_at maps s σ j) b hi k.counts_size refl (λ s. omega arith) k.few_indices some
     (k.indexed s σ j b (omega (arith, k.few)))
     (λ σ' m b' hm e.
     let z = k.alike s σ σ' j m b b' hj hm some e in
@@ -145,7 +145,7 @@ index-shared A counts store maps cells k s σ i j b hi hj some same =
 -- the indices of a side are one more
 pub record Indexed (counts counts' : List ℕ) (s : Side) : Type 0 where
   pub size : length counts' ≡ 6
-  pub classes-are : classes counts' ≡ classes counts
+  pub classes_are : classes counts' ≡ classes counts
   pub one_more : indices counts' s ≡ indices counts s + 1
   pub others : (s' : Side) → (s' ≡ s → ⊥) → indices counts' s' ≡ indices counts s'
 
@@ -160,11 +160,11 @@ pub index-new : (A : Automaton) (counts counts' store maps cells : List ℕ) →
     → i < classes counts → indices counts s < 65536 → Indexed counts counts' s
     → CachedIn A counts' store (set maps (index_place s σ i) (indices counts s)) cells
 index-new A counts counts' store maps cells k s σ i b hi room counted =
-    index-set A counts counts' store maps cells k s σ i (indices counts s) b hi counted.size counted.classes-are
-    (λ s'. (grown s' (side-dec s' s)).0) (λ s'. (grown s' (side-dec s' s)).1) (k.some-indices s) (omega (arith, counted.one_more))
+    index-set A counts counts' store maps cells k s σ i (indices counts s) b hi counted.size counted.classes_are
+    (λ s'. (grown s' (side-dec s' s)).0) (λ s'. (grown s' (side-dec s' s)).1) (k.some_indices s) (omega (arith, counted.one_more))
     (λ σ' m b' hm e. absurd (omega (arith, k.indexed s σ' m b' (omega (arith, k.few)))))
     (λ is n r hr e pos.
-    let z = k.keyed n _ _ pos (omega (arith, k.indexed Side.Right σ r b (omega (arith, k.few)), k.few-indices Side.Right)) e in
+    let z = k.keyed n _ _ pos (omega (arith, k.indexed Side.Right σ r b (omega (arith, k.few)), k.few_indices Side.Right)) e in
     absurd (omega (arith, z.1, ap (indices counts) is)))
     (λ is n l hl e pos.
     let z = k.keyed n _ _ pos (omega (arith, room)) e in
@@ -172,14 +172,14 @@ index-new A counts counts' store maps cells k s σ i b hi room counted =
   where
     grown : (s' : Side) → Dec (s' ≡ s) → (indices counts s' ≤ indices counts' s') × (indices counts' s' ≤ 65536)
     grown s' (yes e) = rw e (omega (arith, counted.one_more), omega (arith, counted.one_more))
-    grown s' (no n) = let e = counted.others s' n in (omega arith, omega (arith, k.few-indices s'))
+    grown s' (no n) = let e = counted.others s' n in (omega arith, omega (arith, k.few_indices s'))
 
 pub index-counted : (counts : List ℕ) (s : Side) → length counts ≡ 6 → Indexed counts (set counts (1 + side_number s) (indices counts s + 1)) s
 index-counted counts s e =
     let small = side-small s in
     record {
       size = length-set counts (1 + side_number s) (indices counts s + 1) ∙ e;
-      classes-are = get_or-set_other counts (1 + side_number s) 0 (indices counts s + 1) 0 (λ e. omega arith);
+      classes_are = get_or-set_other counts (1 + side_number s) 0 (indices counts s + 1) 0 (λ e. omega arith);
       one_more = get_or-set_same counts (1 + side_number s) (indices counts s + 1) 0 (omega arith);
       others = λ s' n. get_or-set_other counts (1 + side_number s) (1 + side_number s') (indices counts s + 1) 0 (λ e. n (side-is s' s (omega (arith, e))));
     }

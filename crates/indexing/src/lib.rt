@@ -1,5 +1,7 @@
 // Indices for classes: at a parent's symbol a class has an index on each side, which classes that do the same there share. So the two indices of
 // its parts lead to the class of a node.
+#![tactic(auto)]
+
 ghost use Rattle.std.specs.Prelude.{◌≡◌, true, List, ℕ, ◌+◌, ◌<◌, ◌≤◌};
 ghost use Rattle.relation.specs.Rows.{composed};
 ghost use Rattle.algorithms.specs.Automaton.{Automaton};

@@ -1,5 +1,7 @@
 // Rows of the saturation that are interchangeable: as parts on a side of a node with a symbol they do the same, wherever the node is, so that
 // the first of them is enough there. Two rows are that if their overloops on the side agree in every state that a step down to it enters.
+#![tactic(auto)]
+
 ghost use Rattle.std.specs.Prelude.{◌≡◌, true, ℕ, ◌+◌, ◌*◌, ◌<◌, ◌≤◌, length, get_or, take, drop};
 ghost use Rattle.std.specs.Int.Bits.{bit_and};
 ghost use Rattle.relation.specs.Bit.{bit};

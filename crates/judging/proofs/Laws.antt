@@ -65,8 +65,8 @@ module _ (A : Automaton) (h : Header) (table : List ℕ) (k : Headed A h table) 
 pub kept_set : (counts : List ℕ) (at v : ℕ) → 2 < at → Kept counts (set counts at v)
 kept_set counts at v far = record {
   size = length-set counts at v;
-  classes-are = get_or-set_other counts at 0 v 0 (λ e. omega arith);
-  indices-are = λ s. other s;
+  classes_are = get_or-set_other counts at 0 v 0 (λ e. omega arith);
+  indices_are = λ s. other s;
 }
   where
     other : (s : Side) → indices (set counts at v) s ≡ indices counts s
@@ -87,13 +87,13 @@ pub renewed : (A : Automaton) (counts store maps cells maps' cells' : List ℕ) 
     → (length cells' ≡ length cells) × ((i : ℕ) → i < length cells' → get_or cells' i 0 ≡ 0)
     → CachedIn A (set (set (set (set counts 0 1) 1 1) 2 1) 4 e) store maps' cells'
 renewed A counts store maps cells maps' cells' e k m c =
-    let n = k.counts-size in
+    let n = k.counts_size in
     let l₁ : length (set counts 0 1) ≡ 6 = length-set counts 0 1 ∙ n in
     let l₂ : length (set (set counts 0 1) 1 1) ≡ 6 = length-set (set counts 0 1) 1 1 ∙ l₁ in
     let l₃ : length (set (set (set counts 0 1) 1 1) 2 1) ≡ 6 = length-set (set (set counts 0 1) 1 1) 2 1 ∙ l₂ in
     let kept = kept_set (set (set (set counts 0 1) 1 1) 2 1) 4 e (omega arith) in
     kept-cache A (set (set (set counts 0 1) 1 1) 2 1) (set (set (set (set counts 0 1) 1 1) 2 1) 4 e) store maps' cells' kept
-    (empty A (set (set (set counts 0 1) 1 1) 2 1) store maps' cells' l₃ k.store-size (m.0 ∙ k.maps-size) (c.0 ∙ k.cells-size)
+    (empty A (set (set (set counts 0 1) 1 1) 2 1) store maps' cells' l₃ k.store_size (m.0 ∙ k.maps_size) (c.0 ∙ k.cells_size)
     (get_or-set_other (set (set counts 0 1) 1 1) 2 0 1 0 (λ x. omega arith) ∙ get_or-set_other (set counts 0 1) 1 0 1 0 (λ x. omega arith)
     ∙ get_or-set_same counts 0 1 0 (omega arith))
     ones k.blank (all-zero maps' m.1) (all-zero cells' c.1))
@@ -101,6 +101,6 @@ renewed A counts store maps cells maps' cells' e k m c =
     ones : (s : Side) → indices (set (set (set counts 0 1) 1 1) 2 1) s ≡ 1
     ones Side.Left =
         get_or-set_other (set (set counts 0 1) 1 1) 2 1 1 0 (λ x. omega arith)
-        ∙ get_or-set_same (set counts 0 1) 1 1 0 (omega (arith, length-set counts 0 1, k.counts-size))
+        ∙ get_or-set_same (set counts 0 1) 1 1 0 (omega (arith, length-set counts 0 1, k.counts_size))
     ones Side.Right =
-        get_or-set_same (set (set counts 0 1) 1 1) 2 1 0 (omega (arith, length-set (set counts 0 1) 1 1, length-set counts 0 1, k.counts-size))
+        get_or-set_same (set (set counts 0 1) 1 1) 2 1 0 (omega (arith, length-set (set counts 0 1) 1 1, length-set counts 0 1, k.counts_size))

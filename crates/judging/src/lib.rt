@@ -1,6 +1,8 @@
 // Judging trees' files by an automaton that was read, with the sum of growths or without. Without: one by a search over configurations, many by a
 // cache of the classes of their subtrees, and by the search where that does not pay. Either goes over the nodes of a file that lines 1 to 6 pass, and
 // finds out itself whether they write a tree. With the sum: one by the overloops of all its parts, many by the cache, which has the growths too.
+#![tactic(auto)]
+
 pub mod credit;
 
 ghost use Rattle.std.specs.Prelude.{◌≡◌, Bool, true, ◌<◌, ◌≤◌, length};

@@ -1,5 +1,7 @@
 // Trees by chance of up to 4,095 nodes: those of `search`, and branches over two copies of one. A node has the eight numbers that it has there, so
 // that the search can go over a tree of at most 1,024 nodes as it stands. It has nothing of the engine.
+#![tactic(auto)]
+
 use sampling::access::{number, set_number};
 use sampling::random::{chance, draw};
 use search::trees;

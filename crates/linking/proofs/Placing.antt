@@ -23,16 +23,16 @@ pub linked-kept : (P R P' R' : List ℕ) (at : ℕ) (t : Tree) → ((i : ℕ) �
     → LinkedFrom P R at t → LinkedFrom P' R' at t
 linked-kept P R P' R' at t p r h =
     record {
-      parents-are = λ i some l. p (at + i) (omega arith) ∙ h.parents-are i some l;
-      rights-are = λ i l. r (at + i) (omega arith) ∙ h.rights-are i l;
+      parents_are = λ i some l. p (at + i) (omega arith) ∙ h.parents_are i some l;
+      rights_are = λ i l. r (at + i) (omega arith) ∙ h.rights_are i l;
     }
 
 pub linked-leaf : (P R : List ℕ) (at σ : ℕ) → get_or R at 0 ≡ 0 → LinkedFrom P R at (leaf σ)
 unfolding rights_from
 linked-leaf P R at σ e =
     record {
-      parents-are = λ i some l. absurd (omega arith);
-      rights-are = λ i l. here i l;
+      parents_are = λ i some l. absurd (omega arith);
+      rights_are = λ i l. here i l;
     }
   where
     here : (i : ℕ) → i < 1 → get_or R (at + i) 0 ≡ get_or (rights_from at (leaf σ)) i 0
@@ -47,12 +47,12 @@ module _ (P R P' R' : List ℕ) (at σ : ℕ) (l r : Tree) (left : LinkedFrom P 
   left-parents : (k : ℕ) → k < size l → get_or P' (at + 1 + k) 0 ≡ get_or (parents_from at (at + 1) l) k 0
   left-parents zero h = ap (λ (j : ℕ). get_or P' j 0) (add-zero (at + 1)) ∙ parent-l ∙ sym (head-parent at (at + 1) l)
   left-parents (suc k) h =
-      parents-kept (at + 1 + suc k) (omega arith) (λ e. omega arith) ∙ left.parents-are (suc k) (omega arith) h ∙ parents-any 0 at (at + 1) l k
+      parents-kept (at + 1 + suc k) (omega arith) (λ e. omega arith) ∙ left.parents_are (suc k) (omega arith) h ∙ parents-any 0 at (at + 1) l k
 
   right-parents : (k : ℕ) → k < size r → get_or P' (at + 1 + size l + k) 0 ≡ get_or (parents_from at (at + 1 + size l) r) k 0
   right-parents zero h = ap (λ (j : ℕ). get_or P' j 0) (add-zero (at + 1 + size l)) ∙ parent-r ∙ sym (head-parent at (at + 1 + size l) r)
   right-parents (suc k) h =
-      parents-kept (at + 1 + size l + suc k) (omega arith) (λ e. omega arith) ∙ right.parents-are (suc k) (omega arith) h
+      parents-kept (at + 1 + size l + suc k) (omega arith) (λ e. omega arith) ∙ right.parents_are (suc k) (omega arith) h
       ∙ parents-any 0 at (at + 1 + size l) r k
 
   parents-all : (k : ℕ) → k < size l + size r → Dec (k < size l) → get_or P' (at + suc k) 0 ≡ get_or (parents_from 0 at (node σ l r)) (suc k) 0
@@ -73,16 +73,16 @@ module _ (P R P' R' : List ℕ) (at σ : ℕ) (l r : Tree) (left : LinkedFrom P 
   rights-all k h (yes f) =
       let e : at + suc k ≡ at + 1 + k = omega arith in
       let long = rights-length (at + 1) l in
-      ap (λ (j : ℕ). get_or R' j 0) e ∙ rights-kept (at + 1 + k) (omega arith) ∙ left.rights-are k f
+      ap (λ (j : ℕ). get_or R' j 0) e ∙ rights-kept (at + 1 + k) (omega arith) ∙ left.rights_are k f
       ∙ sym (left-part 0 (at + 1 + size l) (rights_from (at + 1) l) (rights_from (at + 1 + size l) r) (suc k) k refl (omega arith))
   rights-all k h (no f) =
       let e : at + suc k ≡ at + 1 + size l + (k - size l) = omega arith in
       let long = rights-length (at + 1) l in
-      ap (λ (j : ℕ). get_or R' j 0) e ∙ rights-kept (at + 1 + size l + (k - size l)) (omega arith) ∙ right.rights-are (k - size l) (omega arith)
+      ap (λ (j : ℕ). get_or R' j 0) e ∙ rights-kept (at + 1 + size l + (k - size l)) (omega arith) ∙ right.rights_are (k - size l) (omega arith)
       ∙ sym (right-part 0 (at + 1 + size l) (rights_from (at + 1) l) (rights_from (at + 1 + size l) r) (suc k) (k - size l) (omega arith))
 
   pub linked-node : LinkedFrom P' R' at (node σ l r)
-  linked-node = record { parents-are = parents; rights-are = rights }
+  linked-node = record { parents_are = parents; rights_are = rights }
     where
       parents : (i : ℕ) → 0 < i → i < size (node σ l r) → get_or P' (at + i) 0 ≡ get_or (parents_from 0 at (node σ l r)) i 0
       parents zero some h = absurd (omega arith)

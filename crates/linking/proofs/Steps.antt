@@ -36,10 +36,10 @@ pub leaf-on : (sg : Signature) (n σ at v : ℕ) (P R table s table' : List ℕ)
     → σ < sg.symbols → member sg.branches σ ≡ false → (height_of v ≡ 0) × (low_of v ≡ at)
     → ((ws : List ℕ) → Held table st ws → Held table' st' (v ∷ ws)) → Loaded sg n P (set R at 0) table' (σ ∷ s) st'
 leaf-on sg n σ at v P R table s table' st st' k e small alone word held =
-    let long = k.rights-long in
+    let long = k.rights_long in
     record {
-      parents-long = k.parents-long;
-      rights-long = omega (arith, length-set R at 0);
+      parents_long = k.parents_long;
+      rights_long = omega (arith, length-set R at 0);
       stacked =
           passes.leaf-on (Placed n P R) (Placed n P (set R at 0)) sg σ v table s table' st st' k.stacked
           (placed-kept n (length s) P R P (set R at 0) (λ i b. refl) (λ i b. get_or-set_other R at i 0 0 (λ f. omega arith)))
@@ -76,20 +76,20 @@ branch-on sg n σ at right v h P R table s table' st st' k few e is small branch
     let size-s = two-long l r s rest p.list in
     let size-r = length-append (preorder r) rest in
     let size_is = size-preorder r in
-    let stands-l = p.tells-l.stands in
-    let stands-r = p.tells-r.stands in
+    let stands-l = p.tells_l.stands in
+    let stands-r = p.tells_r.stands in
     let some-l = some-nodes l in
     let some-r = some-nodes r in
     let at-l : low_of st.first ≡ at + 1 = omega arith in
     let at-r : low_of st.second ≡ at + 1 + size l = omega arith in
     let right_is : right ≡ at + 1 + size l = is ∙ at-r in
-    let P-long = k.parents-long in
-    let R-long = k.rights-long in
+    let P-long = k.parents_long in
+    let R-long = k.rights_long in
     let P₁ = set P (at + 1) at in
     let P₁-long = length-set P (at + 1) at in
     record {
-      parents-long = omega (arith, length-set (set P (at + 1) at) right at);
-      rights-long = omega (arith, length-set R at right);
+      parents_long = omega (arith, length-set (set P (at + 1) at) right at);
+      rights_long = omega (arith, length-set R at right);
       stacked =
           rw none at
           (passes.branch-on (Placed n P R) (Placed n (set (set P (at + 1) at) right at) (set R at right)) sg σ v h table s table' st st' t
@@ -101,7 +101,7 @@ branch-on sg n σ at right v h P R table s table' st st' k few e is small branch
             stands = rw word.1 (omega arith);
             linked =
                 rw word.1
-                (linked-node P R (set (set P (at + 1) at) right at) (set R at right) at σ l r (rw (← at-l) p.tells-l.linked) (rw (← at-r) p.tells-r.linked)
+                (linked-node P R (set (set P (at + 1) at) right at) (set R at right) at σ l r (rw (← at-l) p.tells_l.linked) (rw (← at-r) p.tells_r.linked)
                 (get_or-set_other (set P (at + 1) at) right (at + 1) at 0 (λ f. omega arith) ∙ get_or-set_same P (at + 1) at 0 (omega arith))
                 (rw (← right_is) (get_or-set_same (set P (at + 1) at) right at 0 (omega arith)))
                 (λ i b f. get_or-set_other (set P (at + 1) at) right i at 0 (λ g. f (g ∙ right_is)) ∙ get_or-set_other P (at + 1) i at 0 (λ g. omega arith))
@@ -115,7 +115,7 @@ branch-on sg n σ at right v h P R table s table' st st' k few e is small branch
 pub begun : (sg : Signature) (P R table s : List ℕ) → length table ≡ 128 → length s ≤ length P → length s ≤ length R
     → Loaded sg (length s) P R table (drop (length s) s) (record { top = 128; first = 0; second = 0 })
 begun sg P R table s size_is p r =
-    record { parents-long = p; rights-long = r; stacked = passes.begun (Placed (length s) P R) uncounted sg table s size_is }
+    record { parents_long = p; rights_long = r; stacked = passes.begun (Placed (length s) P R) uncounted sg table s size_is }
 
 -- one tree is left, the whole list; the root has no parent
 pub ended : (sg : Signature) (P R table s : List ℕ) (st : Stack) → Loaded sg (length s) P R table s st → length s ≤ 4096 → st.top ≡ 127
@@ -138,18 +138,18 @@ ended sg P R table s st k few e = (t, one.writes, tables)
     linked = rw (← first) one.tells.linked
 
     parent : (i : ℕ) → i < size t → get_or (set P 0 0) i 0 ≡ get_or (parents_of t) i 0
-    parent zero h = get_or-set_same P 0 0 0 (omega (arith, k.parents-long, long)) ∙ sym (head-parent 0 0 t)
+    parent zero h = get_or-set_same P 0 0 0 (omega (arith, k.parents_long, long)) ∙ sym (head-parent 0 0 t)
     parent (suc i) h =
         let same : 0 + suc i ≡ suc i = omega arith in
-        get_or-set_other P 0 (suc i) 0 0 (λ f. omega arith) ∙ ap (λ (j : ℕ). get_or P j 0) (sym same) ∙ linked.parents-are (suc i) (omega arith) h
+        get_or-set_other P 0 (suc i) 0 0 (λ f. omega arith) ∙ ap (λ (j : ℕ). get_or P j 0) (sym same) ∙ linked.parents_are (suc i) (omega arith) h
 
     tables : Tables t s (set P 0 0) R
     tables =
         record {
-          few-nodes = omega (arith, long, few);
-          nodes-are = one.writes.text;
-          parents-long = omega (arith, long, k.parents-long, length-set P 0 0);
-          parents-are = parent;
-          rights-long = omega (arith, long, k.rights-long);
-          rights-are = λ i h. let same : 0 + i ≡ i = omega arith in ap (λ (j : ℕ). get_or R j 0) (sym same) ∙ linked.rights-are i h;
+          few_nodes = omega (arith, long, few);
+          nodes_are = one.writes.text;
+          parents_long = omega (arith, long, k.parents_long, length-set P 0 0);
+          parents_are = parent;
+          rights_long = omega (arith, long, k.rights_long);
+          rights_are = λ i h. let same : 0 + i ≡ i = omega arith in ap (λ (j : ℕ). get_or R j 0) (sym same) ∙ linked.rights_are i h;
         }

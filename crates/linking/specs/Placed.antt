@@ -11,8 +11,8 @@ use Rattle.linking.specs.declared.Step.{Step}
 
 -- the tables have the links of a tree whose root is node `at`, but for the root's parent, which is not read yet
 pub record LinkedFrom (parents rights : List ℕ) (at : ℕ) (t : Tree) : Type 0 where
-  pub parents-are : (i : ℕ) → 0 < i → i < size t → get_or parents (at + i) 0 ≡ get_or (parents_from 0 at t) i 0
-  pub rights-are : (i : ℕ) → i < size t → get_or rights (at + i) 0 ≡ get_or (rights_from at t) i 0
+  pub parents_are : (i : ℕ) → 0 < i → i < size t → get_or parents (at + i) 0 ≡ get_or (parents_from 0 at t) i 0
+  pub rights_are : (i : ℕ) → i < size t → get_or rights (at + i) 0 ≡ get_or (rights_from at t) i 0
 
 -- a word names the tree's root, which stands before the list s, the last of n nodes
 pub record Placed (n : ℕ) (parents rights : List ℕ) (s : List ℕ) (w : ℕ) (t : Tree) : Type 0 where
@@ -25,8 +25,8 @@ uncounted t = 0
 
 -- the stack and the tables tell of the trees that the list s writes
 pub record Loaded (sg : Signature) (n : ℕ) (parents rights table s : List ℕ) (st : Stack) : Type 0 where
-  pub parents-long : n ≤ length parents
-  pub rights-long : n ≤ length rights
+  pub parents_long : n ≤ length parents
+  pub rights_long : n ≤ length rights
   pub stacked : Stacked (Placed n parents rights) uncounted sg table s st 0
 
 -- after a step: they tell of the longer list; or the pass is off

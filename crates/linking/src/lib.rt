@@ -1,4 +1,6 @@
 // The links of a node list in one pass from its end: the parent and the right part of each node. Lines 10 to 12 hold of every list that is linked.
+#![tactic(auto)]
+
 ghost use Rattle.std.specs.Prelude.{◌≡◌, true, false, List, ◌∷◌, ℕ, ◌+◌, ◌<◌, ◌≤◌, length};
 ghost use Rattle.relation.specs.Sets.{member};
 ghost use Rattle.model.specs.Trees.{Tree};
@@ -13,7 +15,7 @@ use nodes::reader::{Here, read_at};
 use passes::{Stack, height_over, merge, packed, push};
 
 // What a step of the pass gives: the stack after the node; or that the pass is off.
-#[derive(Drop)]
+#[derive(Clone, Copy)]
 enum Step {
     On(Stack),
     Off,

@@ -16,7 +16,7 @@ use Rattle.nodes.proofs.Standing.{size-preorder}
 use Rattle.model.specs.Runs.{Position, place}
 use Rattle.links.specs.Links.{parents_from, rights_from, parents_of, rights_of, place_in}
 use Rattle.links.specs.Linked.{ParentOf, Linked}
-use Rattle.links.specs.Numbers.{Numbered, first, to-left, to-right}
+use Rattle.links.specs.Numbers.{Numbered, first, to_left, to_right}
 use Rattle.links.proofs.Numbering.{some-nodes, numbered_within, number-unique}
 use Rattle.links.proofs.Storing.{parents-length, rights-length}
 
@@ -69,7 +69,7 @@ part {t} first =
       symbols = λ k h. ap (λ (n : ℕ). get_or (preorder t) n 0) (let e : 0 + k ≡ k = omega arith in e);
       positions = λ k h. ap (λ (n : ℕ). get_or (positions_from [] t) n []) (let e : 0 + k ≡ k = omega arith in e);
     }
-part {t} (to-left {i = j} {α = α} {σ = σ} {l = l} {r = r} n) =
+part {t} (to_left {i = j} {α = α} {σ = σ} {l = l} {r = r} n) =
     let d = part n in
     let p = parents-length j (j + 1) l in
     let q = rights-length (j + 1) l in
@@ -88,7 +88,7 @@ part {t} (to-left {i = j} {α = α} {σ = σ} {l = l} {r = r} n) =
       positions = λ k h. on-left (λ (i : ℕ). get_or (positions_from [] t) i []) j k ∙ d.positions (suc k) (omega arith)
           ∙ left-part [] α (positions_from (Left ∷ α) l) (positions_from (Right ∷ α) r) (suc k) k refl (omega arith);
     }
-part {t} (to-right {i = j} {α = α} {σ = σ} {l = l} {r = r} n) =
+part {t} (to_right {i = j} {α = α} {σ = σ} {l = l} {r = r} n) =
     let d = part n in
     let p = parents-length j (j + 1) l in
     let q = rights-length (j + 1) l in
@@ -167,8 +167,8 @@ linked {t} {u} {i} {α} parents rights n =
     record {
       parent = rw p (part n).parent;
       place_is = (part n).side (parents_of t ++ parents) p;
-      right = λ σ l r e. let m : Numbered t i α (node σ l r) = rw e at n in rw (q, right_is n σ l r e) (to-right m);
-      no-right = λ σ e. q ∙ rights-here n (leaf σ) e ∙ head-leaf i σ;
+      right = λ σ l r e. let m : Numbered t i α (node σ l r) = rw e at n in rw (q, right_is n σ l r e) (to_right m);
+      no_right = λ σ e. q ∙ rights-here n (leaf σ) e ∙ head-leaf i σ;
     }
 
 -- so have the tree's own links

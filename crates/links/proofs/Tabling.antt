@@ -25,25 +25,25 @@ pub tables-are : (t : Tree) (s P R before before' : List ℕ) → size t ≤ 409
     → (P ≡ parents_of t ++ drop (size t) before) × (R ≡ rights_of t ++ drop (size t) before') → Tables t s P R
 tables-are t s P R before before' few nodes links =
     record {
-      few-nodes = few;
-      nodes-are = nodes;
-      parents-long = front_long (parents_of t) P _ (size t) (parents-length 0 0 t) links.0;
-      parents-are = front_at (parents_of t) P _ (size t) (parents-length 0 0 t) links.0;
-      rights-long = front_long (rights_of t) R _ (size t) (rights-length 0 t) links.1;
-      rights-are = front_at (rights_of t) R _ (size t) (rights-length 0 t) links.1;
+      few_nodes = few;
+      nodes_are = nodes;
+      parents_long = front_long (parents_of t) P _ (size t) (parents-length 0 0 t) links.0;
+      parents_are = front_at (parents_of t) P _ (size t) (parents-length 0 0 t) links.0;
+      rights_long = front_long (rights_of t) R _ (size t) (rights-length 0 t) links.1;
+      rights_are = front_at (rights_of t) R _ (size t) (rights-length 0 t) links.1;
     }
 
 -- at a node
 module _ {t : Tree} {s P R : List ℕ} (h : Tables t s P R) (i : ℕ) (l : i < size t) where
   pub node-within : (i < length s) × (i < length P) × (i < length R) × (i < 65536)
   node-within =
-      let long : length s ≡ size t = ap length h.nodes-are ∙ size-preorder t in
-      (omega arith, omega (arith, h.parents-long), omega (arith, h.rights-long), omega (arith, h.few-nodes))
+      let long : length s ≡ size t = ap length h.nodes_are ∙ size-preorder t in
+      (omega arith, omega (arith, h.parents_long), omega (arith, h.rights_long), omega (arith, h.few_nodes))
 
   pub symbol-read : get_or s i 0 ≡ get_or (preorder t) i 0
-  symbol-read = ap (λ (x : List ℕ). get_or x i 0) h.nodes-are
+  symbol-read = ap (λ (x : List ℕ). get_or x i 0) h.nodes_are
 
   -- the place is by the parent alone
   pub place_read : place_in P i ≡ place_in (parents_of t) i
   unfolding place_in
-  place_read = rw (h.parents-are i l)
+  place_read = rw (h.parents_are i l)

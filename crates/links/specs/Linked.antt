@@ -19,4 +19,4 @@ pub record Linked (t : Tree) (parents rights : List ℕ) (i : ℕ) (α : Positio
   pub parent : ParentOf t α (get_or parents i 0)
   pub place_is : place_in parents i ≡ place Root α
   pub right : (σ : ℕ) (l r : Tree) → u ≡ node σ l r → Numbered t (get_or rights i 0) (Right ∷ α) r
-  pub no-right : (σ : ℕ) → u ≡ leaf σ → get_or rights i 0 ≡ 0
+  pub no_right : (σ : ℕ) → u ≡ leaf σ → get_or rights i 0 ≡ 0

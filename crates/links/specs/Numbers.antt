@@ -9,5 +9,5 @@ use Rattle.model.specs.Runs.{Position}
 -- 01): the left part of node i is node i + 1, and the right part comes after all nodes of the left
 pub data Numbered (t : Tree) : ℕ → Position → Tree → Type 0 where
   first : Numbered t 0 [] t
-  to-left : {i : ℕ} {α : Position} {σ : ℕ} {l r : Tree} → Numbered t i α (node σ l r) → Numbered t (i + 1) (Left ∷ α) l
-  to-right : {i : ℕ} {α : Position} {σ : ℕ} {l r : Tree} → Numbered t i α (node σ l r) → Numbered t (i + 1 + size l) (Right ∷ α) r
+  to_left : {i : ℕ} {α : Position} {σ : ℕ} {l r : Tree} → Numbered t i α (node σ l r) → Numbered t (i + 1) (Left ∷ α) l
+  to_right : {i : ℕ} {α : Position} {σ : ℕ} {l r : Tree} → Numbered t i α (node σ l r) → Numbered t (i + 1 + size l) (Right ∷ α) r

@@ -1,4 +1,6 @@
 // The links of a node list: the parent, the side and the right part of each node, by its preorder index.
+#![tactic(auto)]
+
 ghost use Rattle.std.specs.Prelude.{◌≡◌, ◌++◌, ◌+◌, ◌<◌, ◌≤◌, length, drop};
 ghost use Rattle.std.proofs.lemmas.List.Edits.{sets};
 ghost use Rattle.model.specs.Trees.{Tree, size};

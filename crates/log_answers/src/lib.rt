@@ -1,4 +1,6 @@
 // What the engine answers when two logs are held together (document 02, W8), beside what it has to: the numbers that are told, and the part's bytes.
+#![tactic(auto)]
+
 use log_counts::{DIFFERENT, count_held};
 use log_pairs::Pair;
 use log_runs::answer::{Held, Question, expected_of};

@@ -1,5 +1,7 @@
 // What is counted of trials of two logs held together (document 02, W8). The numbers before these are the refusals, as `watch_trials` counts them. It has
 // nothing of the engine.
+#![tactic(auto)]
+
 ghost use Rattle.std.specs.Prelude.{◌≤◌};
 
 use followed::follow::Position;

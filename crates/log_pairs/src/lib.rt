@@ -1,11 +1,13 @@
 // Two logs by chance (document 02, W8): of a walk that takes any rule that applies, and of such a walk with a change. It has nothing of the engine.
+#![tactic(auto)]
+
 pub mod change;
 
 use sampling::random::{chance, draw};
 use sampling::rules::Automaton;
 
 // How many entries the two logs have, and how each was made.
-#[derive(Drop)]
+#[derive(Clone, Copy)]
 pub struct Pair {
     pub first: usize,
     pub second: usize,

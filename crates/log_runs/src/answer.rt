@@ -5,7 +5,7 @@ use followed::answer::{Expected, of_files, refused};
 use sampling::rules::Automaton;
 
 // What is asked: the two files with their refusals, number 0 for a right one, and the lengths of the two logs.
-#[derive(Drop)]
+#[derive(Clone, Copy)]
 pub struct Question {
     pub automaton: Damaged,
     pub tree: Damaged,
@@ -14,7 +14,7 @@ pub struct Question {
 }
 
 // In how many entries the two logs agree, and how many of each are a run; the refusal has number 0 where there is none.
-#[derive(Drop)]
+#[derive(Clone, Copy)]
 pub struct Held {
     pub refusal: Expected,
     pub agreed: usize,

@@ -7,7 +7,7 @@ use sampling::rules::Automaton;
 pub const GROUPS: usize = 16;
 
 // An automaton, and how many nodes its tree has.
-#[derive(Drop)]
+#[derive(Clone, Copy)]
 pub struct Made {
     pub automaton: Automaton,
     pub size: usize,

@@ -1,4 +1,6 @@
 // Logs of walks by any records that apply (document 02, W8). It has nothing of the engine.
+#![tactic(auto)]
+
 use followed::follow::{Position, moved, put};
 use followed::limits::before;
 use log_runs::entries::{MOST, applies, entry, has_place, has_state, has_symbol};

@@ -76,6 +76,6 @@ opens-part es fs h =
     let all : take (3 * length es) a ≡ a = ap (λ (k : ℕ). take k a) (sym n) ∙ take-length a in
     let l = common-longest a b in
     let agrees : Agrees a b (length es) =
-    record { in-first = omega (arith, n); in-second = omega (arith, bytes-length fs); same = all ∙ sym (bytes_take (length es) fs ∙ ap bytes_of h) } in
-    let whole : common_entries a b ≡ length es = omega (arith, n, l.agrees.in-first, l.longest (length es) agrees) in
+    record { in_first = omega (arith, n); in_second = omega (arith, bytes-length fs); same = all ∙ sym (bytes_take (length es) fs ∙ ap bytes_of h) } in
+    let whole : common_entries a b ≡ length es = omega (arith, n, l.agrees.in_first, l.longest (length es) agrees) in
     ap (λ (k : ℕ). take (3 * k) a) whole ∙ all

@@ -49,7 +49,7 @@ pub record Stretch (a b part : List ℕ) : Type 0 where
 pub part-stretch : (a b : List ℕ) → Stretch a b (common_part a b)
 part-stretch a b =
     let l = common-longest a b in
-    let n : length (common_part a b) ≡ 3 * common_entries a b = length-take-le _ a l.agrees.in-first in
+    let n : length (common_part a b) ≡ 3 * common_entries a b = length-take-le _ a l.agrees.in_first in
     record {
       of-first = ap (λ (k : ℕ). take k a) (sym n);
       of-second = l.agrees.same ∙ ap (λ (k : ℕ). take k b) (sym n);

@@ -8,7 +8,7 @@ use mathlib.Core.List.{List, [], ◌∷◌}
 use lib.Dec.{eqb}
 use lib.ListN.{length, get_or, drop}
 use borrow.Author.Tests.{eqb-true}
-use Rattle.relation.specs.Sets.{member, member-has}
+use Rattle.relation.specs.Sets.{member, member_has}
 use Rattle.model.specs.Trees.{Tree, size}
 use Rattle.algorithms.specs.Automaton.{Automaton, In}
 use Rattle.refusal.proofs.Passed.{and-is-true}
@@ -52,7 +52,7 @@ module _ {initial : ℕ} {s table P R : List ℕ} (w : Countable initial s table
         let rest : ℕ = run_after A t e (entries_of (drop 3 log)) in
         let read : entries_of log ≡ e ∷ entries_of (drop 3 log) =
         entries_next log 0 (omega (arith, some)) ∙ ap (λ (x : Entry). x ∷ entries_of (drop 3 log)) (sym first) in
-        ap (run_prefix A t) read ∙ ap (λ (b : Bool). counted b rest) (ap (λ (x : ℕ). begins x e) w.initial-is ∙ sym f)
+        ap (run_prefix A t) read ∙ ap (λ (b : Bool). counted b rest) (ap (λ (x : ℕ). begins x e) w.initial_is ∙ sym f)
 
     -- its first entry is not the root in a start state ..
     pub not-begun : r ≡ false → 0 ≡ run_prefix A t (entries_of log)
@@ -67,7 +67,7 @@ module _ {initial : ℕ} {s table P R : List ℕ} (w : Countable initial s table
           whole = refl;
           within = omega (arith, some);
           node = omega (arith, root, some-nodes t);
-          state = w.proper.initials e.1 (subst (λ (x : ℕ). In x e.1) (sym w.initial-is) ((member-has initial e.1).0 both.1));
+          state = w.proper.initials e.1 (subst (λ (x : ℕ). In x e.1) (sym w.initial_is) ((member_has initial e.1).0 both.1));
           left = let one : counted r (run_after A t e (entries_of (drop 3 log))) ≡ suc (run_after A t e (entries_of (drop 3 log))) = rw h in omega (arith, begun, one);
         }
 

@@ -8,7 +8,7 @@ use mathlib.Core.List.{List, [], ◌∷◌}
 use lib.Dec.{eqb}
 use lib.ListN.{length, take}
 use borrow.Author.Tests.{eqb-true, eq-eqb}
-use Rattle.relation.specs.Sets.{member, member-has}
+use Rattle.relation.specs.Sets.{member, member_has}
 use Rattle.model.specs.declared.Place.TheVariants.{Root}
 use Rattle.model.specs.Trees.{Tree}
 use Rattle.model.specs.Runs.{Position, Config, Step, Run, done, ◌then◌}
@@ -107,14 +107,14 @@ module _ (A : Automaton) (t : Tree) where
           let both = and-is-true (eqb e.0 0) (member A.initial e.1) g in
           let root : Numbered t e.0 [] t = subst (λ (i : ℕ). Numbered t i [] t) (sym (eqb-true e.0 0 both.0)) first in
           let r = after-traced e es k root (omega arith) in
-          record { start = e.1; starts = (member-has A.initial e.1).0 both.1; last = r.0; traced = r.1 }
+          record { start = e.1; starts = (member_has A.initial e.1).0 both.1; last = r.0; traced = r.1 }
 
       few : (k : ℕ) → k < suc (length es) → Lawful A t (e ∷ take k es) → k < counted (begins A.initial e) (run_after A t e es)
       few k l h =
           let at = traced-first h.traced in
           let root : e.0 ≡ 0 = (number-unique at.1 first).0 in
           let state : In A.initial e.1 = subst (In A.initial) (sym at.2) h.starts in
-          let on : begins A.initial e ≡ true = simp (eq-eqb e.0 0 root, (member-has A.initial e.1).1 state) in
+          let on : begins A.initial e ≡ true = simp (eq-eqb e.0 0 root, (member_has A.initial e.1).1 state) in
           let r = subst (λ (p : ℕ). Traced A t ([], p) (e ∷ take k es) h.last) (sym at.2) h.traced in
           let m = traced-after e es k at.1 (omega arith) r in
           rw on (omega (arith, m))

@@ -23,7 +23,7 @@ use Rattle.tree.specs.declared.file.ParsedTree.{ParsedTree}
 use Rattle.overloops.specs.Ready.{Headed}
 use Rattle.nodes.proofs.Signatures.{below_at}
 use Rattle.watch.specs.Following.{Held}
-use Rattle.watch.proofs.Holding.{nodes-long, few-nodes, symbols-low, symbols-below}
+use Rattle.watch.proofs.Holding.{nodes-long, few_nodes, symbols-low, symbols-below}
 use Rattle.watch.proofs.Telling.{signature, signature-is}
 use Rattle.logs.specs.Prefix.{entries_of, run_prefix}
 use Rattle.logs.specs.Checks.{logs_check}
@@ -43,8 +43,8 @@ countable {s = s} held P R before before' links =
       tree = held.tree;
       proper = held.headed.tabled.proper;
       compiled = held.headed.tabled.compiled;
-      initial-is = held.headed.initial;
-      tables = tables-are held.tree s P R before before' (few-nodes held) held.writes.text links;
+      initial_is = held.headed.initial;
+      tables = tables-are held.tree s P R before before' (few_nodes held) held.writes.text links;
       symbols = λ i l.
           let below = below_at held.automaton.symbols s (symbols-below held) i (omega (arith, nodes-long held)) in
           omega (arith, below, held.headed.symbols, symbols-low held);

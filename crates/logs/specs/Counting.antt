@@ -23,6 +23,6 @@ pub record Countable (initial : ℕ) (s table P R : List ℕ) : Type 0 where
   pub tree : Tree
   pub proper : Proper automaton
   pub compiled : Compiled automaton table
-  pub initial-is : automaton.initial ≡ initial
+  pub initial_is : automaton.initial ≡ initial
   pub tables : Tables tree s P R
   pub symbols : (i : ℕ) → i < size tree → get_or s i 0 < 32

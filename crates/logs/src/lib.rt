@@ -1,4 +1,6 @@
 // Two logs of one automaton and one tree held together: where they part, and how far each is a run (document 02, W8).
+#![tactic(auto)]
+
 mod prefix;
 
 ghost use Rattle.std.specs.Prelude.{◌≡◌};
@@ -21,7 +23,7 @@ use transitions::TransitionTable;
 use tree::file::{ParsedTree, read_tree};
 
 // How many entries from the start of each log are a run; or a refusal.
-#[derive(Drop)]
+#[derive(Clone, Copy)]
 pub enum Compared {
     Counted(usize, usize),
     Refused(Refusal),

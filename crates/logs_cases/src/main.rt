@@ -2,6 +2,8 @@
 // A case is 17 bytes (the length of its label, one byte; the lengths of the automaton's and of the tree's file and of the two logs, four each, lowest
 // byte first), then the label, the files and the logs. A length with 2147483648 added stands for so many bytes of what was read before.
 // tools/make_logs_cases.py makes them.
+#![tactic(auto)]
+
 ghost use Rattle.std.specs.Prelude.{◌+◌, ◌<◌, ◌≤◌};
 
 fn number(label: &[u8], n: u64) {

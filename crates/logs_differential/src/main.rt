@@ -1,6 +1,8 @@
 // Compares what is told of two logs held together with a reading that goes entry by entry and record by record, on automata, trees and logs by chance,
 // of which every second pair has a fault or several: a damaged file, or a log whose length is no multiple of three. It writes how the logs were made,
 // what they have to give, the refusals by number, and how often the engine differs.
+#![tactic(auto)]
+
 use log_answers::ask;
 use log_counts::{COUNTS, count_pair};
 use log_trials::{automata, faults, lines};

@@ -83,11 +83,11 @@ pub text-tree : {s : List ℕ} {r : Elements} → Text s r → text_tree s ≡ t
 text-tree t = ap tree_of (text-elements t.writes)
 
 module _ (s : List ℕ) (passed : text_check s ≡ Passed) where
-  pub nodes-are : nodes_in s ≡ preorder (text_tree s)
-  nodes-are = let t = (text-passed s passed).1.1 in text-nodes t.writes ∙ ap preorder (sym (text-tree t))
+  pub nodes_are : nodes_in s ≡ preorder (text_tree s)
+  nodes_are = let t = (text-passed s passed).1.1 in text-nodes t.writes ∙ ap preorder (sym (text-tree t))
 
   pub size_is : size (text_tree s) ≡ length (nodes_in s)
-  size_is = sym (size-preorder (text_tree s)) ∙ ap length (sym nodes-are)
+  size_is = sym (size-preorder (text_tree s)) ∙ ap length (sym nodes_are)
 
   pub few : length (nodes_in s) ≤ 4096 → size_check s ≡ Passed
   unfolding size_check
@@ -103,7 +103,7 @@ module _ (s : List ℕ) (passed : text_check s ≡ Passed) where
 -- the file that is written from the nodes is the text's
 pub file-is : (s nodes : List ℕ) → text_check s ≡ Passed → nodes ≡ nodes_in s → file_of (payload_of nodes) ≡ text_file s
 unfolding tree_file
-file-is s nodes passed e = ap (λ (x : List ℕ). file_of (payload_of x)) (e ∙ nodes-are s passed)
+file-is s nodes passed e = ap (λ (x : List ℕ). file_of (payload_of x)) (e ∙ nodes_are s passed)
 
 -- ---- 19
 

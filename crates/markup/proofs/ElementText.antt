@@ -54,12 +54,12 @@ module _ (w : List ℕ) (h : Header) (read : parsed w ≡ Parsed.Read h) where
   )
 
   -- reading the file back gives the tree of the text
-  pub reads-back : (s out : List ℕ) (n : ℕ) (r : Elements) → (markup_of w s out).answer ≡ Written.Bytes n → Text s r
+  pub reads_back : (s out : List ℕ) (n : ℕ) (r : Elements) → (markup_of w s out).answer ≡ Written.Bytes n → Text s r
       → ReadsBack (signature_of (automaton_of h (content w))) (tree_of r) × (take n (markup_of w s out).out ≡ tree_file (tree_of r))
-  reads-back s out n r e t =
+  reads_back s out n r e t =
       let f = (markup-right w s out).file h read n e in
       let same = one-tree f.text t in
-      (rw same at f.reads-back, ap (take n) f.bytes ∙ take_at (tree_file (tree_of f.elements)) (drop n out) n (sym f.long) ∙ ap tree_file same)
+      (rw same at f.reads_back, ap (take n) f.bytes ∙ take_at (tree_file (tree_of f.elements)) (drop n out) n (sym f.long) ∙ ap tree_file same)
 
   -- "Accepted texts that differ only in spaces give the same file"
   pub same-file : (s u out more : List ℕ) (n m : ℕ) → (markup_of w s out).answer ≡ Written.Bytes n → (markup_of w u more).answer ≡ Written.Bytes m
@@ -69,5 +69,5 @@ module _ (w : List ℕ) (h : Header) (read : parsed w ≡ Parsed.Read h) where
       let b = (markup-right w u more).file h read m f in
       let same : tree_of a.elements ≡ tree_of b.elements = ap tree_of (same-run a.text.writes b.text.writes k) in (
         a.long ∙ ap (λ (t : Tree). length (tree_file t)) same ∙ sym b.long,
-        (reads-back s out n a.elements e a.text).1 ∙ ap tree_file same ∙ sym (reads-back u more m b.elements f b.text).1,
+        (reads_back s out n a.elements e a.text).1 ∙ ap tree_file same ∙ sym (reads_back u more m b.elements f b.text).1,
       )

@@ -25,7 +25,7 @@ use Rattle.nodes.specs.Nodes.{height_check, nodes_check}
 use Rattle.nodes.specs.Preorder.{preorder, Writes}
 use Rattle.nodes.proofs.Laws.{low-next, writes}
 use Rattle.tree.specs.Payload.{tree_file}
-use Rattle.tree_writer.proofs.Reading.{reads-back}
+use Rattle.tree_writer.proofs.Reading.{reads_back}
 use Rattle.block_writer.specs.Written.{room_check, Filled, filled}
 use Rattle.block_writer.specs.declared.Written.{Written}
 use Rattle.block_writer.proofs.Answers.{room-passed, room-enough, after-bytes, after_kept}
@@ -61,14 +61,14 @@ module _ (s : List ℕ) (r : Elements) (t : Text s r) where
   file-is = ap tree_file (text-tree t)
 
 module _ (sg : Signature) (signed : Signed sg) (s : List ℕ) (r : Elements) (t : Text s r) (tags : tag_check sg s ≡ Passed) where
-  nodes-are : nodes_check sg (nodes_in s) ≡ height_check (tree_of r)
-  nodes-are = only-height sg s r t.writes (leaf-zero sg s tags) tags signed
+  nodes_are : nodes_check sg (nodes_in s) ≡ height_check (tree_of r)
+  nodes_are = only-height sg s r t.writes (leaf-zero sg s tags) tags signed
 
   -- 12 passes the tree exactly if it is low; then it is over the signature
   tree-writes : height_check (tree_of r) ≡ Passed → Writes sg (preorder (tree_of r)) (tree_of r)
   tree-writes e =
       let same = tree_is sg s r t.writes (leaf-zero sg s tags) tags in
-      rw (same, text-nodes t.writes) at (writes sg (nodes_in s) (nodes-are ∙ e))
+      rw (same, text-nodes t.writes) at (writes sg (nodes_in s) (nodes_are ∙ e))
 
 -- ---- an answer, back to its checks
 
@@ -100,7 +100,7 @@ module _ (sg : Signature) (signed : Signed sg) (s out : List ℕ) where
             };
         long = a.1 ∙ ap length f;
         bytes = a.2 ∙ ap (λ (x : List ℕ). x ++ drop n out) f;
-        reads-back = reads-back sg (tree_of r) wr.over k.0 wr.low;
+        reads_back = reads_back sg (tree_of r) wr.over k.0 wr.low;
       }
 
   -- a text to which no check applies is written

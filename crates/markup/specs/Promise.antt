@@ -36,7 +36,7 @@ pub record TextWritten (sg : Signature) (s before after : List ℕ) (n : ℕ) : 
   pub unchecked : Unchecked sg s elements (length before)
   pub long : n ≡ length (tree_file (tree_of elements))
   pub bytes : after ≡ tree_file (tree_of elements) ++ drop n before
-  pub reads-back : ReadsBack sg (tree_of elements)
+  pub reads_back : ReadsBack sg (tree_of elements)
 
 -- of an automaton's file w, the text s, the output before, and the answer with the output afterwards
 pub record Promise (w s before : List ℕ) (o : Filled) : Type 0 where

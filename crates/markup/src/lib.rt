@@ -1,4 +1,6 @@
 // An element text as a tree's file (document 02, W6): refusals 18, 19, 4, 12 and 13, and the bytes.
+#![tactic(auto)]
+
 ghost use Rattle.std.specs.Prelude.{◌≡◌, length, false};
 ghost use Rattle.relation.specs.Sets.{member};
 ghost use Rattle.refusal.specs.Checks.{◌and_then◌};

@@ -4,13 +4,15 @@
 // first), then the label, the file and the pieces. A piece is how often it comes and its length, two bytes each, and its bytes. Where a place is
 // given, each of the 256 bytes is put there in turn, and an answer is written where it is not that of the byte before.
 // tools/make_markup_cases.py makes them.
+#![tactic(auto)]
+
 ghost use Rattle.std.specs.Prelude.{◌+◌, ◌<◌, ◌≤◌, length};
 
 use block_writer::Written;
 use refusal::Refusal;
 
 // An answer: the number of a refusal, its file and its place; or 0, the number of nodes and the file's length. And a number for the lent bytes.
-#[derive(Drop)]
+#[derive(Clone, Copy)]
 struct Outcome {
     number: u64,
     file: u64,
@@ -19,7 +21,7 @@ struct Outcome {
 }
 
 // The length of the automaton's file, which is kept for the next case.
-#[derive(Drop)]
+#[derive(Clone, Copy)]
 enum Next {
     Kept(usize),
     End,

@@ -1,6 +1,8 @@
 // Compares the trees' files that the engine writes for element texts with a reading of its own, on texts by chance, of which every second one is
 // damaged, and for automata by chance, of which some are damaged. All bytes of the output are compared. For each kind of answer it writes how often
 // it has to be given to right texts and to damaged ones, and how often the engine differs.
+#![tactic(auto)]
+
 mod compare;
 mod kinds;
 

@@ -62,7 +62,7 @@ judged-right w s h k read letter =
       one = λ u written. writes_one (signature_of A) _ u t written known.tree;
       accepted = told-accepted (accepts? A t) run;
       other = told-other (accepts? A t) run;
-      no-refusal = told-not-refused (accepts? A t);
+      no_refusal = told-not-refused (accepts? A t);
     })
 
 -- ---- the sum

@@ -26,7 +26,7 @@ pub record Judges (A : Automaton) (nodes : List ℕ) (r : Answer) : Type 0 where
   pub accepted : (r ≡ Answer.Accepted) ↔ Accepted A tree
   pub other : (r ≡ Answer.Other) ↔ (¬ Accepted A tree)
   -- .. and is not refused
-  pub no-refusal : (x : Refusal) → ¬ (r ≡ Answer.Refused x)
+  pub no_refusal : (x : Refusal) → ¬ (r ≡ Answer.Refused x)
 
 -- "A letter read without refusal": the automaton's file w reads, and the tree's file s against it, with k nodes
 abbrev pub Demand2 : (w s : List ℕ) → Answer → Type 0

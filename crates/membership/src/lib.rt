@@ -1,5 +1,7 @@
 // Membership: whether an automaton accepts a tree, and the sum of the growths of closing over its nodes, by the overloops of its parts, from the
 // leaves up.
+#![tactic(auto)]
+
 pub mod leaves;
 
 ghost use Rattle.std.specs.Prelude.{◌≡◌, ℕ, ◌+◌, ◌*◌, ◌<◌, ◌≤◌, length, get_or};
@@ -26,7 +28,7 @@ use transitions::TransitionTable;
 use tree::file::ParsedTree;
 
 // What judging answers: accepted, judged and not accepted, or refused.
-#[derive(Drop)]
+#[derive(Clone, Copy)]
 pub enum Answer {
     Accepted,
     Other,
@@ -34,14 +36,14 @@ pub enum Answer {
 }
 
 // An answer with the sum of growths over the nodes of the tree; 0 where it is refused.
-#[derive(Drop)]
+#[derive(Clone, Copy)]
 pub struct Judged {
     pub answer: Answer,
     pub growth: u32,
 }
 
 // The overloops of the tree at a node, the sum of growths over its nodes, and the node after it.
-#[derive(Drop)]
+#[derive(Clone, Copy)]
 struct Part {
     overloops: Relation,
     growth: u32,
@@ -162,7 +164,7 @@ fn close_tree(
 }
 
 // Whether the tree that a node list writes is accepted, with the sum of growths.
-#[derive(Drop)]
+#[derive(Clone, Copy)]
 struct Weighed {
     accepted: bool,
     growth: u32,

@@ -245,10 +245,10 @@ module _ (S : Alphabet) (L : Language) (M : Algebra) (W : Recognizes S L M) wher
     right-correct : (v : Verdict) → Right v → Correct S L limit v
     right-correct v r =
         record {
-          says-found = λ h. (λ x. (subst Right x.1 r).0, found-told v r h);
+          says_found = λ h. (λ x. (subst Right x.1 r).0, found-told v r h);
           witness = λ h p e. (subst Right e r).1;
-          says-open = λ h. (λ e. (subst Right e r).0, open_told v r h);
-          says-empty = λ h. (λ e. (subst Right e r).0, empty-told v r h);
+          says_open = λ h. (λ e. (subst Right e r).0, open_told v r h);
+          says_empty = λ h. (λ e. (subst Right e r).0, empty-told v r h);
           told = height-told v r;
         }
 

@@ -42,8 +42,8 @@ module _ (Δ : Transitions) where
   -- At the root, a transition up leaves no step inside the tree.
   no-step-inside : {τ : Place} {t : Tree} {p q : ℕ} {c : Config} → Deterministic Δ →
       Δ (symbol t) p τ Up q → Step Δ τ t ([], p) c → ⊥
-  no-step-inside det u (stays top d) = stay-not-up (det.one-transition d u).0
-  no-step-inside det u (descends top d) = down-not-up (det.one-transition d u).0
+  no-step-inside det u (stays top d) = stay-not-up (det.one_transition d u).0
+  no-step-inside det u (descends top d) = down-not-up (det.one_transition d u).0
 
   module _ (det : Deterministic Δ) {τ : Place} {t : Tree} where
     -- Lemma 24.
@@ -52,7 +52,7 @@ module _ (Δ : Transitions) where
         let (u, μ, a, k, h) = step-transition x in
         let (v, ν, b, l, i) = step-transition y in
         let k' : Δ (symbol v) c.1 (place τ c.0) μ d.1 = rw (at-unique a b) at k in
-        let (f, g) = det.one-transition k' l in
+        let (f, g) = det.one_transition k' l in
         let j : d.0 ≡ e.0 = cc in
         λ n. (j n, g n)
 
@@ -62,7 +62,7 @@ module _ (Δ : Transitions) where
 
     exit-unique : {c : Config} {m m' q q' : ℕ} → Run Δ τ t c ([], m) → Δ (symbol t) m τ Up q →
         Run Δ τ t c ([], m') → Δ (symbol t) m' τ Up q' → q ≡ q'
-    exit-unique done u done u' = (det.one-transition u u').1
+    exit-unique done u done u' = (det.one_transition u u').1
     exit-unique done u (y then d) u' = absurd (no-step-inside det u y)
     exit-unique (x then c) u done u' = absurd (no-step-inside det u' x)
     exit-unique (x then c) u (y then d) u' = exit-unique c u (rw (step-unique _ _ _ x y) d) u'

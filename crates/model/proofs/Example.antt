@@ -40,7 +40,7 @@ pub not-accepted : Accepts 𝒳 (Is 0) (Is 1) (node 3 (leaf 1) (leaf 0)) → ⊥
 not-accepted (i, f, it, it, c) = no-chain ((loop-node 𝒳).0 c)
 
 pub deterministic : Deterministic 𝒳
-deterministic = record { one-transition = one }
+deterministic = record { one_transition = one }
   where
     one : {σ p : ℕ} {τ : Place} {μ μ' : Move} {q q' : ℕ} → 𝒳 σ p τ μ q → 𝒳 σ p τ μ' q' → (μ ≡ μ') × (q ≡ q')
     one found found = (refl, refl)

@@ -3,7 +3,7 @@ use mathlib.Core.Logic.{◌↔◌}
 use Prim.Native.Nat.{ℕ}
 use Rattle.model.specs.Places.{Side, Left, Right, Place, Child}
 use Rattle.model.specs.Trees.{Tree, leaf, node}
-use Rattle.model.specs.Runs.{Chain, Transitions, Loop, UpClosure, Overloop, PartOverloop, Here, Simple, loop-here, loop_down}
+use Rattle.model.specs.Runs.{Chain, Transitions, Loop, UpClosure, Overloop, PartOverloop, Here, Simple, loop_here, loop_down}
 use Rattle.model.proofs.RunLaws.{chain-map}
 use Rattle.model.proofs.Loops.{loop-leaf, loop-node}
 
@@ -22,7 +22,7 @@ module _ (Δ : Transitions) where
 
   pub simple-map : {τ : Place} {σ : ℕ} {X Y : Side → ℕ → ℕ → Type 0} → ((s : Side) (a b : ℕ) → X s a b → Y s a b) →
       (p q : ℕ) → Simple Δ τ σ X p q → Simple Δ τ σ Y p q
-  simple-map f p q (loop-here d) = loop-here d
+  simple-map f p q (loop_here d) = loop_here d
   simple-map f p q (loop_down s d x) = loop_down s d (f s _ _ x)
 
   pub overloop-leaf : {τ : Place} {σ : ℕ} → Same (Overloop Δ τ (leaf σ)) (UpClosure Δ τ σ (Chain (Here Δ τ σ)))

@@ -18,16 +18,16 @@ module _ (Δ : Transitions) (S : Alphabet) (F : ℕ → Type 0) where
 
     -- The paper's Lemma 27: such sets hold the overloops of every tree over the alphabet.
     pub overloop-inside : (t : Tree) → Over S t → (s : Side) (p q : ℕ) → Overloop Δ (Child s) t p q → P s p q
-    overloop-inside (leaf σ) o s p q c = h.leaf-part s σ p q o c
+    overloop-inside (leaf σ) o s p q c = h.leaf_part s σ p q o c
     overloop-inside (node σ l r) o s p q (m, c, u) =
         let inside = both (overloop-inside l o.1) (overloop-inside r o.2) in
-        h.node-part s σ p q o.0 (m, chain-map (λ n. n) (simple-map Δ inside) ((loop-node Δ).0 c), u)
+        h.node_part s σ p q o.0 (m, chain-map (λ n. n) (simple-map Δ inside) ((loop-node Δ).0 c), u)
 
     pub top-inside : (t : Tree) → Over S t → (p f : ℕ) → Loop Δ Root t p f → F f → R p
-    top-inside (leaf σ) o p f c e = h.leaf-top σ p f o c e
+    top-inside (leaf σ) o p f c e = h.leaf_top σ p f o c e
     top-inside (node σ l r) o p f c e =
         let inside = both (overloop-inside l o.1) (overloop-inside r o.2) in
-        h.node-top σ p f o.0 (chain-map (λ n. n) (simple-map Δ inside) ((loop-node Δ).0 c)) e
+        h.node_top σ p f o.0 (chain-map (λ n. n) (simple-map Δ inside) ((loop-node Δ).0 c)) e
 
     -- The paper's Theorem 28: where no initial state is in the root set, no tree of any size is accepted.
     pub clear-rejects : {I : ℕ → Type 0} → ((p : ℕ) → I p → ¬ R p) → (t : Tree) → Over S t → ¬ Accepts Δ I F t

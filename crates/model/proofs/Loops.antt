@@ -5,7 +5,7 @@ use Prim.Native.Nat.{ℕ}
 use Rattle.model.specs.Places.{Side, Place, Child, Up}
 use Rattle.model.specs.Trees.{Tree, leaf, node, symbol, part}
 use Rattle.model.specs.Runs.{Position, top, Chain, done, ◌then◌, Transitions, Config, Step, stays, climbs, descends, Run, Loop, PartOverloop}
-use Rattle.model.specs.Runs.{Here, Simple, loop-here, loop_down}
+use Rattle.model.specs.Runs.{Here, Simple, loop_here, loop_down}
 use Rattle.model.specs.Overloops.{Below, same, deeper}
 use Rattle.model.proofs.Positions.{at-unique, at_part, leaf-has-no-parts, relative, root-not-below}
 use Rattle.model.proofs.RunLaws.{◌followed-by◌, chain-map, run-append, step-relative}
@@ -30,7 +30,7 @@ module _ (Δ : Transitions) where
 
     chain-to-node : {p q : ℕ} → Loops p q → Loop Δ τ (node σ l r) p q
     chain-to-node done = done
-    chain-to-node (loop-here d then c) = stays top d then chain-to-node c
+    chain-to-node (loop_here d then c) = stays top d then chain-to-node c
     chain-to-node (loop_down s d (m, e, u) then c) =
         descends top d then run-append Δ (at_part s) e followed-by climbs (at_part s) u then chain-to-node c
 
@@ -49,7 +49,7 @@ module _ (Δ : Transitions) where
     rest : {p q : ℕ} {β : Position} → Run Δ τ (node σ l r) (β, p) ([], q) → (v : Spot β) → Rest v p q
     rest done at-root = done
     rest done (in-part s b) = absurd (root-not-below b)
-    rest (stays top d then c) at-root = loop-here d then rest c at-root
+    rest (stays top d then c) at-root = loop_here d then rest c at-root
     rest (stays a d then c) (in-part s b) = first (step-relative Δ (at_part s) b b (stays a d)) (rest c (in-part s b))
     rest (descends {s = s} top d then c) at-root =
         let (m, n, e, u, k) = rest c (in-part s same) in

@@ -7,7 +7,7 @@ use Rattle.model.specs.Places.{Side, Place, Child, Up}
 use Rattle.model.specs.Trees.{Tree, symbol}
 use Rattle.model.specs.Runs.{Position, place, At, top, at_left, at_right, Chain, done, ◌then◌, Transitions, Config, stays, climbs, descends}
 use Rattle.model.specs.Runs.{Run, Loop, Overloop}
-use Rattle.model.specs.Overloops.{Below, same, deeper, StepBelow, LoopAt, StepToParent, to-overroot, to-parent, OverloopAt}
+use Rattle.model.specs.Overloops.{Below, same, deeper, StepBelow, LoopAt, StepToParent, to_overroot, to_parent, OverloopAt}
 use Rattle.model.proofs.Positions.{at-unique, relative, relative-unique, parent-not-below, below-append}
 use Rattle.model.proofs.RunLaws.{chain-map, shift, step-append, step-relative}
 use Rattle.model.proofs.FromParts.{Computed, overloop-computed}
@@ -21,16 +21,16 @@ module _ (Δ : Transitions) where
 
   last-transition : {τ : Place} {t u : Tree} {α : Position} {c : Config} {q : ℕ} → At t α u → (i : Below α c.0) →
       StepToParent Δ τ t α c q → (relative i ≡ []) × Δ (symbol u) c.1 (place τ α) Up q
-  last-transition a i (to-overroot d) = (relative-unique i same, rw (at-unique top a) at d)
-  last-transition a i (to-parent (stays b d)) = absurd (parent-not-below i)
-  last-transition a i (to-parent (climbs b d)) = climb-out refl i a b d
-  last-transition a i (to-parent (descends b d)) = absurd (parent-not-below (deeper i))
+  last-transition a i (to_overroot d) = (relative-unique i same, rw (at-unique top a) at d)
+  last-transition a i (to_parent (stays b d)) = absurd (parent-not-below i)
+  last-transition a i (to_parent (climbs b d)) = climb-out refl i a b d
+  last-transition a i (to_parent (descends b d)) = absurd (parent-not-below (deeper i))
 
   step-to-parent : {τ : Place} {t u : Tree} {α : Position} {m q : ℕ} → At t α u →
       Δ (symbol u) m (place τ α) Up q → StepToParent Δ τ t α (α, m) q
-  step-to-parent top d = to-overroot d
-  step-to-parent (at_left a) d = to-parent (climbs (at_left a) d)
-  step-to-parent (at_right a) d = to-parent (climbs (at_right a) d)
+  step-to-parent top d = to_overroot d
+  step-to-parent (at_left a) d = to_parent (climbs (at_left a) d)
+  step-to-parent (at_right a) d = to_parent (climbs (at_right a) d)
 
   module _ {τ : Place} {t u : Tree} {α : Position} (a : At t α u) where
     run-to-below : {c d : Config} → Run Δ (place τ α) u c d → Chain (StepBelow Δ τ t α) (shift α c) (shift α d)

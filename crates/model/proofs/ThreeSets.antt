@@ -5,7 +5,7 @@ use mathlib.Core.Logic.{◌↔◌}
 use Prim.Native.Nat.{ℕ}
 use Rattle.model.specs.Places.{Side, Place, Root, Child, Up}
 use Rattle.model.specs.Trees.{Tree, leaf}
-use Rattle.model.specs.Runs.{Chain, Transitions, Loop, UpClosure, Overloop, Simple, loop-here, loop_down}
+use Rattle.model.specs.Runs.{Chain, Transitions, Loop, UpClosure, Overloop, Simple, loop_here, loop_down}
 use Rattle.model.specs.Lists.{◌∈◌}
 use Rattle.model.specs.Counting.{Alphabet}
 use Rattle.model.proofs.RunLaws.{chain-map, step_map}
@@ -37,20 +37,20 @@ module _ (Δ : Transitions) (S : Alphabet) (F : ℕ → Type 0) (over : ℕ) whe
     loop-new = chain-map (λ c. c) (λ c d. step_map (λ σ p τ μ q. old))
 
     simple-old : {τ : Place} {σ : ℕ} (p q : ℕ) → Simple Δ' τ σ (λ s. pairs_of (Child s)) p q → Simple Δ τ σ P p q
-    simple-old p q (loop-here d) = loop-here (old-stay Δ F over d)
+    simple-old p q (loop_here d) = loop_here (old-stay Δ F over d)
     simple-old p q (loop_down s d x) = loop_down s (old-down Δ F over d) x
 
     simple-new : {τ : Place} {σ : ℕ} (p q : ℕ) → Simple Δ τ σ P p q → Simple Δ' τ σ (λ s. pairs_of (Child s)) p q
-    simple-new p q (loop-here d) = loop-here (old d)
+    simple-new p q (loop_here d) = loop_here (old d)
     simple-new p q (loop_down s d x) = loop_down s (old d) x
 
     pairs-hold : HoldsPairs pairs_of → Holds Δ S F P R
     pairs-hold h =
         record {
-          leaf-part = λ s σ p q m (k, c, u). h.leaves (Child s) σ p q m (k, loop-new c, old u);
-          node-part = λ s σ p q m (k, c, u). h.branches (Child s) σ p q m (k, chain-map (λ n. n) simple-new c, old u);
-          leaf-top = λ σ p f m c e. (h.leaves Root σ p over m (f, loop-new c, escape e)).1;
-          node-top = λ σ p f m c e. (h.branches Root σ p over m (f, chain-map (λ n. n) simple-new c, escape e)).1;
+          leaf_part = λ s σ p q m (k, c, u). h.leaves (Child s) σ p q m (k, loop-new c, old u);
+          node_part = λ s σ p q m (k, c, u). h.branches (Child s) σ p q m (k, chain-map (λ n. n) simple-new c, old u);
+          leaf_top = λ σ p f m c e. (h.leaves Root σ p over m (f, loop-new c, escape e)).1;
+          node_top = λ σ p f m c e. (h.branches Root σ p over m (f, chain-map (λ n. n) simple-new c, escape e)).1;
         }
 
     module _ (no-exit : (σ p q : ℕ) → Δ σ p Root Up q → ⊥) where
@@ -63,13 +63,13 @@ module _ (Δ : Transitions) (S : Alphabet) (F : ℕ → Type 0) (over : ℕ) whe
       holds-pairs h = record { leaves = at_leaf; branches = at-branch }
         where
           at_leaf : (τ : Place) (σ p q : ℕ) → σ ∈ S.leaves → Overloop Δ' τ (leaf σ) p q → pairs_of τ p q
-          at_leaf Root σ p q m (k, c, u) = let w = way_up u in (w.1, h.leaf-top σ p k m (loop_old c) w.0)
-          at_leaf (Child s) σ p q m (k, c, u) = h.leaf-part s σ p q m (k, loop_old c, old-up Δ F over u)
+          at_leaf Root σ p q m (k, c, u) = let w = way_up u in (w.1, h.leaf_top σ p k m (loop_old c) w.0)
+          at_leaf (Child s) σ p q m (k, c, u) = h.leaf_part s σ p q m (k, loop_old c, old-up Δ F over u)
 
           at-branch : (τ : Place) (σ p q : ℕ) → σ ∈ S.branches →
               UpClosure Δ' τ σ (Chain (Simple Δ' τ σ (λ s. pairs_of (Child s)))) p q → pairs_of τ p q
-          at-branch Root σ p q m (k, c, u) = let w = way_up u in (w.1, h.node-top σ p k m (chain-map (λ n. n) simple-old c) w.0)
-          at-branch (Child s) σ p q m (k, c, u) = h.node-part s σ p q m (k, chain-map (λ n. n) simple-old c, old-up Δ F over u)
+          at-branch Root σ p q m (k, c, u) = let w = way_up u in (w.1, h.node_top σ p k m (chain-map (λ n. n) simple-old c) w.0)
+          at-branch (Child s) σ p q m (k, c, u) = h.node_part s σ p q m (k, chain-map (λ n. n) simple-old c, old-up Δ F over u)
 
       -- The two forms come to the same.
       pub three-sets : Holds Δ S F P R ↔ HoldsPairs pairs_of

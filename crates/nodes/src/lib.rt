@@ -1,4 +1,6 @@
 // The node list of a tree: one symbol a node, in preorder. Lines 10 to 12 of the table of refusals.
+#![tactic(auto)]
+
 pub mod reader;
 
 ghost use Rattle.std.specs.Prelude.{◌≡◌, ◌+◌, ◌<◌, ◌≤◌, ◌^◌, leb};
@@ -19,7 +21,7 @@ fn is_unknown(signature: Signature, symbol: Symbol) -> bool
 
 // Where the next node is: its depth, and the right parts that wait. From that depth up, `waiting` has a bit for each depth, lowest bit first: 1
 // where the right part there waits. Depth 65 is too deep, and 66 says that no part is to come.
-#[derive(Drop)]
+#[derive(Clone, Copy)]
 struct Path {
     depth: u32,
     waiting: u64,
@@ -28,7 +30,7 @@ struct Path {
 // What is known of a list of which some nodes were read: how many, the parts of the tree that are still open, the first node whose symbol is
 // none of the signature's, the first node after the tree closed, and the first that is too deep. Where there is no such node yet, it is the
 // next one to be read. And where that is.
-#[derive(Drop)]
+#[derive(Clone, Copy)]
 struct Scan {
     nodes: usize,
     parts: usize,

@@ -5,14 +5,14 @@ ghost use Rattle.nodes.specs.Reader.{node_at, place_after};
 
 use model::Symbol;
 
-#[derive(Drop)]
+#[derive(Clone, Copy)]
 pub struct Reader<'a> {
     pub symbols: &'a [u8],
     pub at: usize,
 }
 
 // What stands at a place of the list: a node, by its symbol; or the end.
-#[derive(Drop)]
+#[derive(Clone, Copy)]
 pub enum Here {
     Node(Symbol),
     End,

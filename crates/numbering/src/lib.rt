@@ -1,5 +1,7 @@
 // Answers as numbers, for programs in other languages: each function answers a number, and leaves three more in `told`: those of the answer, or
 // of a refusal its number, file and place; what is missing is 0.
+#![tactic(auto)]
+
 ghost use Rattle.std.specs.Prelude.{◌≡◌};
 ghost use Rattle.numbering.specs.Numbers.{refusal_told, answer_number, answer_told, growth_numbers, judgement_number, judgement_told, survey_number, survey_told, quick_number, quick_told, single_number, single_told, written_number, written_told, watch_number, watch_told, compared_number, compared_counts, compared_told, outcome_numbered, tally_numbers, check_number, check_told};
 

@@ -21,7 +21,7 @@ pub record Headed (A : Automaton) (h : Header) (table : List ℕ) : Type 0 where
 -- .. and a second table the overloops of its leaves: all that judging, survey, quick check and tally need
 pub record Ready (A : Automaton) (h : Header) (table leaves : List ℕ) : Type 0 where
   pub headed : Headed A h table
-  pub leaves-are : Leaves A leaves
+  pub leaves_are : Leaves A leaves
 
 -- after preparing the file s: the tables of its automaton, or, of a refused file, what stood there
 abbrev pub PreparedAfter : Parsed → (s table leaves table' leaves' : List ℕ) → Type 0

@@ -1,4 +1,6 @@
 // The overloops of nodes, formed from the compiled transitions. One function forms the loops of a node, and everything else goes through it.
+#![tactic(auto)]
+
 ghost use Rattle.std.specs.Prelude.{◌≡◌, ◌+◌, ◌<◌, ◌≤◌, length, take, drop, replicate};
 ghost use Rattle.algorithms.specs.Automaton.{Automaton, Proper};
 ghost use Rattle.algorithms.specs.Overloops as spec;
@@ -100,7 +102,7 @@ fn close_in(
 }
 
 // A node as a part of its parent: its overloops, and the growth of closing there.
-#[derive(Drop)]
+#[derive(Clone, Copy)]
 pub struct Part {
     pub overloops: Relation,
     pub growth: u32,

@@ -7,7 +7,7 @@ use search::files;
 const LONGEST: usize = 32768;
 
 // A refusal's number, file and place or, number 0, a file of the length.
-#[derive(Drop)]
+#[derive(Clone, Copy)]
 pub struct Expected {
     pub number: usize,
     pub file: usize,

@@ -31,7 +31,7 @@ const END: usize = 256;
 
 // The number of an opening tag so far, how many elements are open, how many nodes there are, the depth of the next, and one more than the first
 // node of depth 65, or 0. The stack has for each open element its number and 128 times its depth.
-#[derive(Drop)]
+#[derive(Clone, Copy)]
 struct Reader {
     mode: usize,
     value: usize,
@@ -43,7 +43,7 @@ struct Reader {
 
 // Whether a text is right. If so, how many nodes it has, and one more than the first node of depth 65, or 0; else the first byte that cannot stand
 // where it does.
-#[derive(Drop)]
+#[derive(Clone, Copy)]
 pub struct Reading {
     pub right: bool,
     pub place: usize,

@@ -43,8 +43,8 @@ pub record Two (W : Words) (f : Tree → ℕ) (b : ℕ) (s : List ℕ) (x y : �
   pub shaped-r : Shaped b r
   pub high-l : height_of x ≡ height l
   pub high-r : height_of y ≡ height r
-  pub tells-l : W (preorder r ++ rest) x l
-  pub tells-r : W rest y r
+  pub tells_l : W (preorder r ++ rest) x l
+  pub tells_r : W rest y r
   pub told : Told W f b rest ws total-rest
   pub total-is : total ≡ f l + (f r + total-rest)
 
@@ -60,8 +60,8 @@ two (more l hl el low-l x (more {s = s} {n = n} r hr er low-r y t)) =
       shaped-r = hr;
       high-l = el;
       high-r = er;
-      tells-l = x;
-      tells-r = y;
+      tells_l = x;
+      tells_r = y;
       told = t;
       total-is = refl;
     }
@@ -236,7 +236,7 @@ parts-ended {W} sg σ h table s st k e small branch over low =
       writes =
           writes-tree sg (σ ∷ s) (node σ p.l p.r) (written σ p.l p.r s p.rest p.list ends.0)
           (shaped-node sg.branches σ p.l p.r branch p.shaped-l p.shaped-r) (below_more sg.symbols σ s small k.below) (omega arith);
-      tells-l = subst (λ (l : List ℕ). W (preorder p.r ++ l) st.first p.l) ends.0 p.tells-l;
-      tells-r = subst (λ (l : List ℕ). W l st.second p.r) ends.0 p.tells-r;
+      tells_l = subst (λ (l : List ℕ). W (preorder p.r ++ l) st.first p.l) ends.0 p.tells_l;
+      tells_r = subst (λ (l : List ℕ). W l st.second p.r) ends.0 p.tells_r;
       total = omega (arith, p.total-is, ends.1);
     }

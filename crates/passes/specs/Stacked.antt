@@ -28,6 +28,6 @@ pub record Parts (W : Words) (f : Tree → ℕ) (sg : Signature) (s : List ℕ) 
   pub l : Tree
   pub r : Tree
   pub writes : Writes sg s (node σ l r)
-  pub tells-l : W (preorder r ++ []) x l
-  pub tells-r : W [] y r
+  pub tells_l : W (preorder r ++ []) x l
+  pub tells_r : W [] y r
   pub total : n ≡ f l + f r

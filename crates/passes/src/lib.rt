@@ -1,5 +1,7 @@
 // What passes over a node list from its end have in common: a stack of words, one for each tree that the rest of the list writes, with the tree's
 // height in it for line 12; and what a pass tells of the tree.
+#![tactic(auto)]
+
 ghost use Rattle.std.specs.Prelude.{◌≡◌, List, ◌∷◌, ℕ, ◌+◌, ◌<◌, ◌≤◌, max};
 ghost use Rattle.model.specs.Trees.{Tree};
 ghost use Rattle.model.specs.declared.Signature.{Signature};
@@ -28,7 +30,7 @@ pub fn packed(height: u64, low: u32) -> u64
 
 // A stack of words in a lent table that fills from its end: where its top is, and copies of the two words on top. (A tree at most 64 high has at
 // most 65 parts that wait.)
-#[derive(Drop)]
+#[derive(Clone, Copy)]
 pub struct Stack {
     pub top: usize,
     pub first: u64,
@@ -66,7 +68,7 @@ pub fn merge(table: &mut [u64; 128], stack: Stack, word: u64) -> Stack
 }
 
 // Whether a tree is accepted; or that it is not known.
-#[derive(Drop)]
+#[derive(Clone, Copy)]
 pub enum Verdict {
     Accepted,
     Other,

@@ -1,5 +1,7 @@
 // Compares the percent of tallies with a search among the numbers from 0 to 100: of all small tallies, of exact halves by chance, of each of
 // these with one number off by one, and of any. It writes how the percents of each family are rounded, and how often the engine differs.
+#![tactic(auto)]
+
 ghost use Rattle.std.specs.Prelude.{◌≤◌};
 
 use sampling::access::{divided, number};
@@ -20,7 +22,7 @@ fn times(n: u8, k: u32) -> u64
 }
 
 // How far a number is from the percent, times those judged; and whether it is too high.
-#[derive(Drop)]
+#[derive(Clone, Copy)]
 struct Gap {
     by: u64,
     high: bool,

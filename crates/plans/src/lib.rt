@@ -1,5 +1,7 @@
 // Plans as bytes, by a reading of document 02's W1 that shares no code or definition with the engine: plans by chance and damaged ones, the
 // tree that a plan builds, as the file of a letter, and whether runs accept it.
+#![tactic(auto)]
+
 use enumerated::rows;
 use sampling::access::{byte, has, number, set_byte, set_number};
 use sampling::random::{chance, draw};
@@ -7,7 +9,7 @@ use sampling::rules::Automaton;
 use search::{files, walk};
 
 // What is expected: a refusal's number, file and place or, number 0, a file of the length.
-#[derive(Drop)]
+#[derive(Clone, Copy)]
 pub struct Expected {
     pub number: u8,
     pub file: u8,

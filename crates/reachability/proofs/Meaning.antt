@@ -114,7 +114,7 @@ answer A h table s P Q low k t tables r told =
     proper = k.tabled.proper
 
     long : size t ≤ length s
-    long = omega (arith, ap length tables.nodes-are ∙ size-preorder t)
+    long = omega (arith, ap length tables.nodes_are ∙ size-preorder t)
 
     read : Read A proper t table s P Q
     read i p j q l states = leads-read A k.tabled.compiled tables i l (low i) p states j q

@@ -7,7 +7,7 @@ use mathlib.Core.Logic.{inl, inr, ⊎_elim}
 use mathlib.Core.Bool.{true}
 use mathlib.Core.List.{List, []}
 use lib.ListN.{length, get_or, set}
-use Rattle.relation.specs.Sets.{member, member-has}
+use Rattle.relation.specs.Sets.{member, member_has}
 use Rattle.relation.proofs.BitLaws.{bit-zero}
 use Rattle.model.specs.declared.Place.{Place}
 use Rattle.model.specs.declared.Side.TheVariants.{Left, Right}
@@ -61,7 +61,7 @@ module _ (table nodes P Q : List ℕ) (v : ℕ) (R F R' F' : List ℕ) (x : Move
       led p j q few h (μ, e) =
           let both = and-is-true (arrives (goes P Q v (Makes μ q)) j) (member (next_in table σ τ μ p) q) e in
           let at : cell_of σ τ μ p ≡ cell_of σ τ μ 0 + p = omega arith in
-          (μ, (both.0, (images μ).into p q few h (subst (λ (k : ℕ). In (get_or table k 0) q) at ((member-has (next_in table σ τ μ p) q).0 both.1))))
+          (μ, (both.0, (images μ).into p q few h (subst (λ (k : ℕ). In (get_or table k 0) q) at ((member_has (next_in table σ τ μ p) q).0 both.1))))
 
       leading : (j q : ℕ) → Moved j q → (p : ℕ) × (p < 24) × In (get_or F v 0) p × (leads_in (next_in table) nodes P Q v p j q ≡ true)
       leading j q (μ, (e, h)) =
@@ -69,7 +69,7 @@ module _ (table nodes P Q : List ℕ) (v : ℕ) (R F R' F' : List ℕ) (x : Move
           let p = i.0 in
           let at : cell_of σ τ μ 0 + p ≡ cell_of σ τ μ p = omega arith in
           let allowed : In (next_in table σ τ μ p) q = subst (λ (k : ℕ). In (get_or table k 0) q) at i.3 in
-          (p, i.1, i.2, true-some (leads_by (next_in table) P Q σ τ v p j q) μ (simp (e, (member-has (next_in table σ τ μ p) q).1 allowed)))
+          (p, i.1, i.2, true-some (leads_by (next_in table) P Q σ τ v p j q) μ (simp (e, (member_has (next_in table σ τ μ p) q).1 allowed)))
 
 module _ (table nodes P Q : List ℕ) (v : ℕ) {R F R₁ F₁ R₂ F₂ R₃ F₃ : List ℕ} {stay up left right : ℕ} where
   -- by the parent, then the two parts, then the node itself

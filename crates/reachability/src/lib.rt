@@ -1,4 +1,6 @@
 // Whether an automaton accepts a tree, by a search over its configurations: a word of states for each node, by its preorder index.
+#![tactic(auto)]
+
 ghost use Rattle.std.specs.Prelude.{◌≡◌, true, ◌↔◌, [], ℕ, ◌+◌, ◌<◌, ◌≤◌, length, get_or};
 ghost use Rattle.model.specs.declared.Side.TheVariants.{Left, Right};
 ghost use Rattle.model.specs.declared.Move.TheVariants.{Up, Down};
@@ -20,7 +22,7 @@ use relation::{lowest, without_lowest};
 use transitions::{TransitionTable, cell};
 
 // The states that the steps from some states of a node lead to, by each move.
-#[derive(Drop)]
+#[derive(Clone, Copy)]
 struct Successors {
     stay: u32,
     up: u32,
@@ -29,7 +31,7 @@ struct Successors {
 }
 
 // A node with fresh states, or the number of nodes where there is none; and how many nodes are left on the stack.
-#[derive(Drop)]
+#[derive(Clone, Copy)]
 struct Popped {
     node: usize,
     height: usize,

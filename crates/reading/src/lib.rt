@@ -1,5 +1,7 @@
 // Two parts of judging a tree's file, by themselves, for the benchmark: the check of its blocks, and reading it whole. Both are the engine's
 // own functions, under names that a Rust program can link.
+#![tactic(auto)]
+
 ghost use Rattle.std.specs.Prelude.{◌≡◌, ◌/◌, length};
 ghost use Rattle.blocks.specs.Blocks.{check_wrong};
 ghost use Rattle.blocks.specs.Search.{lowest};

@@ -1,6 +1,8 @@
 // Automata by chance whose records say rules more than once: copies, place 3 beside its own places, and copies of which a byte is another.
 // And whether an automaton is single, by a reading of document 02's W2 that shares no code or definition with the engine: two records
 // contradict each other, or none do.
+#![tactic(auto)]
+
 use sampling::random::{chance, draw, subset};
 use sampling::rules;
 use sampling::rules::{Automaton, Rule};

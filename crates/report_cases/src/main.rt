@@ -1,5 +1,7 @@
 // Runs the report on stored pairs of an automaton's file and trees' files, NN.walker and NN.letters of the current directory, one after the
 // other. tools/make_reports.py makes the files and, from documents 01 and 02 alone, the lines that are expected.
+#![tactic(auto)]
+
 ghost use Rattle.std.specs.Prelude.{◌<◌};
 
 use reporting::Descriptor;

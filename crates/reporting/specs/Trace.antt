@@ -1,5 +1,5 @@
 -- What was asked of a descriptor and what it gave, and what was handed to standard output. No contract of the C library's `read` and `write` speaks of
--- the input or the output, so that these calls are carried by two relations that are shut: only `read-gave` and `was-handed` make them, and
+-- the input or the output, so that these calls are carried by two relations that are shut: only `read_gave` and `was_handed` make them, and
 -- only the proofs of `read_part` and `print` cite those (tools/citations counts). So a piece that was not read, an end of the input that no read
 -- told, and a line that was not handed over have no proof.
 -- Interface: `Asked`, `Handed`, `PiecesRead`, `InputEnded`, `all_read`.
@@ -10,17 +10,17 @@ use Rattle.reporting.specs.declared.Descriptor.{Descriptor}
 pub Asked : (descriptor : Descriptor) → (asked got : ℕ) → Type 0
 Asked descriptor asked got = got ≤ asked
 
-pub read-gave : (descriptor : Descriptor) (asked got : ℕ) → got ≤ asked → Asked descriptor asked got
+pub read_gave : (descriptor : Descriptor) (asked got : ℕ) → got ≤ asked → Asked descriptor asked got
 unfolding Asked
-read-gave descriptor asked got l = l
+read_gave descriptor asked got l = l
 
 -- a text was handed to standard output, which took all of it or not
 pub Handed : (text : List ℕ) → (took : Bool) → Type 0
 Handed text took = text ≡ text
 
-pub was-handed : (text : List ℕ) (took : Bool) → Handed text took
+pub was_handed : (text : List ℕ) (took : Bool) → Handed text took
 unfolding Handed
-was-handed text took = refl
+was_handed text took = refl
 
 -- pieces of the input, the latest in front: each was asked for
 pub data PiecesRead (descriptor : Descriptor) : List (List ℕ) → Type 0 where

@@ -1,4 +1,6 @@
 // The report on an automaton and a batch of trees: read from two descriptors, written to standard output.
+#![tactic(auto)]
+
 ghost use Rattle.std.specs.Prelude.{◌≡◌, List, ℕ, ◌+◌, ◌-◌, ◌≤◌, leb, length, take, drop};
 ghost use Rattle.algorithms.specs.Automaton.{Automaton};
 ghost use Rattle.automaton.specs.File.{WithinLimits};
@@ -23,7 +25,7 @@ use tally::Tally;
 use transitions::TransitionTable;
 
 // A file descriptor.
-#[derive(Drop)]
+#[derive(Clone, Copy)]
 pub struct Descriptor(pub i32);
 
 // Reads bytes from..to of a buffer; how many there were. (Of these bytes nothing is known.)

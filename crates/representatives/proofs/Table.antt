@@ -31,8 +31,8 @@ same-origin e f g = rw (e, f, g)
 
 -- ---- a row written
 
-module _ (i s l r : ℕ) (x : Parts) (t t₁ t₂ t₃ : List ℕ) (few : i < 64) (room : length t ≡ 3264) (left-rows : length x.left ≡ 24)
-    (right-rows : length x.right ≡ 24) (origin : PutFirst 3 (i * 51) (s ∷ l ∷ r ∷ []) t t₁) (left : Put (i * 51 + 3) x.left t₁ t₂)
+module _ (i s l r : ℕ) (x : Parts) (t t₁ t₂ t₃ : List ℕ) (few : i < 64) (room : length t ≡ 3264) (left_rows : length x.left ≡ 24)
+    (right_rows : length x.right ≡ 24) (origin : PutFirst 3 (i * 51) (s ∷ l ∷ r ∷ []) t t₁) (left : Put (i * 51 + 3) x.left t₁ t₂)
     (right : Put (i * 51 + 27) x.right t₂ t₃) where
   size : length t₃ ≡ length t
   size = right.size ∙ left.size ∙ origin.size
@@ -70,9 +70,9 @@ module _ (i s l r : ℕ) (x : Parts) (t t₁ t₂ t₃ : List ℕ) (few : i < 64
   written bs bl br =
       record {
         origin = same-origin (byte 0 s (omega arith) refl bs) (byte 1 l (omega arith) refl bl) (byte 2 r (omega arith) refl br);
-        class = ap₂ parts (part-is t₃ (i * 51 + 3) (omega (arith, size)) x.left left-rows second) (part-is t₃ (i * 51 + 27) (omega (arith, size)) x.right right-rows right.inside);
-        others-origin = λ j few' n. same-origin (other_byte j 0 (omega arith) n) (other_byte j 1 (omega arith) n) (other_byte j 2 (omega arith) n);
-        others-class = λ j few' n. ap₂ parts (other-part j 3 few' (omega arith) n) (other-part j 27 few' (omega arith) n);
+        class = ap₂ parts (part-is t₃ (i * 51 + 3) (omega (arith, size)) x.left left_rows second) (part-is t₃ (i * 51 + 27) (omega (arith, size)) x.right right_rows right.inside);
+        others_origin = λ j few' n. same-origin (other_byte j 0 (omega arith) n) (other_byte j 1 (omega arith) n) (other_byte j 2 (omega arith) n);
+        others_class = λ j few' n. ap₂ parts (other-part j 3 few' (omega arith) n) (other-part j 27 few' (omega arith) n);
       }
 
 -- how a tree is built, written word by word
@@ -217,4 +217,4 @@ module _ (A : Automaton) where
         at_row i d h m (no s) =
             let short : i < length kept = omega (arith, nth-lt m, full, length-append kept (c ∷ [])) in
             let old = stored.each i d h (nth-front kept (c ∷ []) i d short m) in
-            record { origin = w.others-origin i h s ∙ old.origin; class = w.others-class i h s ∙ old.class }
+            record { origin = w.others_origin i h s ∙ old.origin; class = w.others_class i h s ∙ old.class }

@@ -48,5 +48,5 @@ KnownIn false rows n x = (i : ℕ) → i < n → same_parts x (class_in rows i) 
 pub record Written (i : ℕ) (o : WitnessRow) (x : Parts) (rows rows' : List ℕ) : Type 0 where
   pub origin : origin_in rows' i ≡ o
   pub class : class_in rows' i ≡ x
-  pub others-origin : (j : ℕ) → j < 64 → (j ≡ i → ⊥) → origin_in rows' j ≡ origin_in rows j
-  pub others-class : (j : ℕ) → j < 64 → (j ≡ i → ⊥) → class_in rows' j ≡ class_in rows j
+  pub others_origin : (j : ℕ) → j < 64 → (j ≡ i → ⊥) → origin_in rows' j ≡ origin_in rows j
+  pub others_class : (j : ℕ) → j < 64 → (j ≡ i → ⊥) → class_in rows' j ≡ class_in rows j

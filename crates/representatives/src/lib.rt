@@ -1,5 +1,7 @@
 // The rows that the saturation keeps, at most 64: inequivalent trees, each with its class and how it is built. They stand in one lent table
 // of words, 51 a row: symbol, left row, right row, then the overloops as a left part (24 words) and as a right part.
+#![tactic(auto)]
+
 ghost use Rattle.std.specs.Prelude.{◌≡◌, List, [], ◌∷◌, ◌+◌, ◌<◌, ◌≤◌, length};
 ghost use Rattle.model.specs.Saturation.{Candidate, known, keep_if_new};
 ghost use Rattle.algorithms.specs.Automaton.{Automaton};
@@ -17,11 +19,11 @@ use relation::same_rows;
 pub type RowTable = [u32; 3264];
 
 // The number of a row: neither a symbol nor a state.
-#[derive(Drop)]
+#[derive(Clone, Copy)]
 pub struct Row(pub u8);
 
 // How the tree of a row is built, document 01's plan row: its symbol over the trees of two earlier rows. A leaf has 255 for both.
-#[derive(Drop)]
+#[derive(Clone, Copy)]
 pub struct Origin {
     pub symbol: Symbol,
     pub left: Row,

@@ -18,7 +18,7 @@ pub const NEXT: usize = 4;
 pub const MOST: usize = 512;
 
 // Its counts and sets; its rules stand in the array.
-#[derive(Drop)]
+#[derive(Clone, Copy)]
 pub struct Automaton {
     pub states: usize,
     pub symbols: usize,
@@ -29,7 +29,7 @@ pub struct Automaton {
 }
 
 // The rule's step is its move.
-#[derive(Drop)]
+#[derive(Clone, Copy)]
 pub struct Rule {
     pub symbol: usize,
     pub state: usize,

@@ -1,4 +1,6 @@
 // The saturation, document 01's survey: rounds of candidates until a tree is accepted, the rows are more than 64, or a round adds none.
+#![tactic(auto)]
+
 ghost use Rattle.std.specs.Prelude.{◌≡◌};
 ghost use Rattle.algorithms.specs.Automaton.{Automaton};
 ghost use Rattle.algorithms.specs.Saturate.{saturation_of};
@@ -14,7 +16,7 @@ use representatives::{Origin, RowTable};
 use transitions::TransitionTable;
 
 // How the rounds end: Found at a height after so many rows, with the accepted tree; Open or Empty at a height.
-#[derive(Drop)]
+#[derive(Clone, Copy)]
 pub enum Saturated {
     Found {
         height: usize,

@@ -31,7 +31,7 @@ pub fn set(nodes: &mut [usize], node: usize, field: usize, value: usize) {
 
 // What a tree is to look like: its kind (0 by chance, 1 comb down the left, 2 comb down the right, 3 zigzag, 4 full), its height, and for
 // kind 0 the most nodes and how many branches among eight nodes.
-#[derive(Drop)]
+#[derive(Clone, Copy)]
 pub struct Shape {
     pub kind: usize,
     pub height: usize,

@@ -1,6 +1,8 @@
 // Compares single with a pairwise reading of the records, on automata by chance whose records say rules more than once. Each is asked once as
 // it is and once damaged, with the refusal that document 01 has for it. It writes the answers of each family, the refusals by number, and how
 // often the engine differs.
+#![tactic(auto)]
+
 use determinism::Singleness;
 use refusal::Refusal;
 use sampling::access::number;
@@ -13,7 +15,7 @@ use search::files;
 const AUTOMATA: usize = 2000;
 
 // What is told of a file: single (0), not single (1), or refused (2) with the refusal's number and place.
-#[derive(Drop)]
+#[derive(Clone, Copy)]
 struct Answer {
     kind: usize,
     number: usize,

@@ -1,4 +1,6 @@
 // Small automata by chance: one to four states and symbols, with rules of one of the families.
+#![tactic(auto)]
+
 use generated::families;
 use sampling::access::{has, only};
 use sampling::random::{chance, draw};

@@ -82,7 +82,7 @@ module _ (A : Automaton) (proper : Proper A) (table : List ℕ) (compiled : Comp
   pub filled : (m : ℕ) (codes : List ℕ) → m ≤ 32 → ((c : ℕ) → c < m * 72 → get_or codes c 0 ≡ code_at table c) → Chosen m A.next codes
   filled m codes few at =
       record {
-        codes-are = λ σ τ p l h.
+        codes_are = λ σ τ p l h.
             ap decoded (at (choice_cell σ τ p) (omega (arith, place-small τ))) ∙ code_is σ τ p (omega arith) h;
       }
 

@@ -7,7 +7,7 @@ use mathlib.Core.List.{List}
 use lib.Dec.{eqb}
 use lib.ListN.{get_or}
 use borrow.Author.Tests.{eqb-true, eq-eqb}
-use Rattle.relation.specs.Sets.{member, member-has}
+use Rattle.relation.specs.Sets.{member, member_has}
 use Rattle.model.specs.declared.Side.{Side}
 use Rattle.model.specs.declared.Side.TheVariants.{Left, Right}
 use Rattle.model.specs.declared.Place.{Place}
@@ -108,7 +108,7 @@ module _ (A : Automaton) (t : Tree) {u : Tree} {i : ℕ} {α : Position} (n : Nu
       let m = some-true by_move (rw here at e) in
       let μ = m.0 in
       let both = and-is-true (arrives (goes (parents_of t) (rights_of t) i (Makes μ q)) j) (member (A.next (symbol u) (place Root α) μ p) q) m.1 in
-      led A t n μ j q q (arrives-to (parents_of t) (rights_of t) i j q μ both.0) ((member-has (A.next (symbol u) (place Root α) μ p) q).0 both.1)
+      led A t n μ j q q (arrives-to (parents_of t) (rights_of t) i j q μ both.0) ((member_has (A.next (symbol u) (place Root α) μ p) q).0 both.1)
 
   pub led-leads : Led A t α p j q → leads A t i p j q ≡ true
   led-leads l =
@@ -116,7 +116,7 @@ module _ (A : Automaton) (t : Tree) {u : Tree} {i : ℕ} {α : Position} (n : Nu
       let g = m.to-node in
       let same : g.target ≡ j = (number-unique g.named l.named).0 in
       here ∙ true-some by_move m.move
-      (simp (g.goes-is, eq-eqb g.target j same, (member-has (A.next (symbol u) (place Root α) m.move p) q).1 m.allows))
+      (simp (g.goes-is, eq-eqb g.target j same, (member_has (A.next (symbol u) (place Root α) m.move p) q).1 m.allows))
 
 -- ---- by what the code reads: the compiled transitions, the node list and its links
 

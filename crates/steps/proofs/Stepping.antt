@@ -22,7 +22,7 @@ use Rattle.model.specs.Runs.{Position, place, Config, Step, stays, climbs, desce
 use Rattle.model.proofs.Positions.{at-unique}
 use Rattle.algorithms.specs.Automaton.{Automaton, In, Δ, Proper}
 use Rattle.refusal.proofs.Passed.{clash}
-use Rattle.links.specs.Numbers.{Numbered, to-left, first}
+use Rattle.links.specs.Numbers.{Numbered, to_left, first}
 use Rattle.links.specs.Links.{parents_of, rights_of}
 use Rattle.links.specs.Tables.{Tables}
 use Rattle.links.proofs.Numbering.{some-nodes, numbered-at, number-unique, numbered_within}
@@ -81,7 +81,7 @@ only-choice A proper det σ p τ μ q d = go (choice A.next σ τ p) refl
     go : (c : Choice) → choice A.next σ τ p ≡ c → choice A.next σ τ p ≡ Makes μ q
     go Halts e = absurd (omega (arith, subst (λ (x : ℕ). bit x q ≡ 1) (choice-none (λ ν. A.next σ τ ν p) e μ) d, bit-zero q))
     go (Makes ν r) e =
-        let same = det.one-transition (choice-on (λ ν. A.next σ τ ν p) (λ ν. transitions-low A proper σ τ ν p) ν r e) d in
+        let same = det.one_transition (choice-on (λ ν. A.next σ τ ν p) (λ ν. transitions-low A proper σ τ ν p) ν r e) d in
         e ∙ cc (same.0, same.1)
 
 -- ---- where a choice leads
@@ -126,11 +126,11 @@ module _ (A : Automaton) (t : Tree) where
       let f = same-to (get_or (parents_of t) i 0) j r q (rw (ne_eqb i 0 (below_root n)) at e) in
       let up = (linked-own n).parent in
       record { position = α; tree = up.0; named = rw f.0 at up.1; step = climbs (numbered-at n) (rw f.1 at d) }
-  led {u = leaf σ} {i = i} n (Down Left) j q r e d = absurd (not-to j q (rw (eq-eqb (get_or (rights_of t) i 0) 0 ((linked-own n).no-right σ refl)) at e))
-  led {u = leaf σ} {i = i} n (Down Right) j q r e d = absurd (not-to j q (rw (eq-eqb (get_or (rights_of t) i 0) 0 ((linked-own n).no-right σ refl)) at e))
+  led {u = leaf σ} {i = i} n (Down Left) j q r e d = absurd (not-to j q (rw (eq-eqb (get_or (rights_of t) i 0) 0 ((linked-own n).no_right σ refl)) at e))
+  led {u = leaf σ} {i = i} n (Down Right) j q r e d = absurd (not-to j q (rw (eq-eqb (get_or (rights_of t) i 0) 0 ((linked-own n).no_right σ refl)) at e))
   led {u = node σ x y} {i = i} {α = α} n (Down Left) j q r e d =
       let f = same-to (i + 1) j r q (rw (ne_eqb (get_or (rights_of t) i 0) 0 (right-part n)) at e) in
-      record { position = Left ∷ α; tree = x; named = rw f.0 at (to-left n); step = descends (numbered-at n) (rw f.1 at d) }
+      record { position = Left ∷ α; tree = x; named = rw f.0 at (to_left n); step = descends (numbered-at n) (rw f.1 at d) }
   led {u = node σ x y} {i = i} {α = α} n (Down Right) j q r e d =
       let f = same-to (get_or (rights_of t) i 0) j r q (rw (ne_eqb (get_or (rights_of t) i 0) 0 (right-part n)) at e) in
       record { position = Right ∷ α; tree = y; named = rw f.0 at ((linked-own n).right σ x y refl); step = descends (numbered-at n) (rw f.1 at d) }
@@ -167,7 +167,7 @@ module _ (A : Automaton) (t : Tree) where
       (record {
         move = Down Left;
         allows = k;
-        to-node = record { target = i + 1; tree = l; named = to-left m; goes-is = rw (ne_eqb (get_or (rights_of t) i 0) 0 (right-part m)) };
+        to-node = record { target = i + 1; tree = l; named = to_left m; goes-is = rw (ne_eqb (get_or (rights_of t) i 0) 0 (right-part m)) };
       })
   made {u} {i} n (descends {s = Right} {α = α} {σ = σ} {l = l} {r = r} a k) =
       let e : u ≡ node σ l r = at-unique (numbered-at n) a in
@@ -188,9 +188,9 @@ module _ (A : Automaton) (t : Tree) where
 -- where a choice leads is by the node's links alone
 pub goes-read : {t : Tree} {s P R : List ℕ} → Tables t s P R → (i : ℕ) → i < size t → (c : Choice) → goes P R i c ≡ goes (parents_of t) (rights_of t) i c
 goes-read h i l (Makes Stay q) = refl
-goes-read h i l (Makes Up q) = rw (h.parents-are i l)
-goes-read h i l (Makes (Down Left) q) = rw (h.rights-are i l)
-goes-read h i l (Makes (Down Right) q) = rw (h.rights-are i l)
+goes-read h i l (Makes Up q) = rw (h.parents_are i l)
+goes-read h i l (Makes (Down Left) q) = rw (h.rights_are i l)
+goes-read h i l (Makes (Down Right) q) = rw (h.rights_are i l)
 goes-read h i l Halts = refl
 
 -- a step leads into a state, at a node

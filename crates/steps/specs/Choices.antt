@@ -56,4 +56,4 @@ code_at t c = code_of (first_of (λ μ. get_or t ((c / 24 * 4 + move_byte μ) * 
 
 -- the cells of the first m symbols have the choices
 pub record Chosen (m : ℕ) (next : Next) (codes : List ℕ) : Type 0 where
-  pub codes-are : (σ : ℕ) (τ : Place) (p : ℕ) → σ < m → p < 24 → decoded (get_or codes (choice_cell σ τ p) 0) ≡ choice next σ τ p
+  pub codes_are : (σ : ℕ) (τ : Place) (p : ℕ) → σ < m → p < 24 → decoded (get_or codes (choice_cell σ τ p) 0) ≡ choice next σ τ p

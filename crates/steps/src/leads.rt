@@ -11,7 +11,7 @@ use model::{Move, Place, Side, State, Symbol};
 use transitions::TransitionTable;
 
 // A node of a node list and a state.
-#[derive(Drop)]
+#[derive(Clone, Copy)]
 pub struct Configuration {
     pub node: usize,
     pub state: State,

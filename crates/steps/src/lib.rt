@@ -1,5 +1,7 @@
 // One step by node numbers: the transition that an automaton makes at a node, from a table of them, and the node that it leads to; and whether some
 // transition leads from one configuration to another.
+#![tactic(auto)]
+
 pub mod leads;
 
 ghost use Rattle.std.specs.Prelude.{◌≡◌, List, ℕ, ◌<◌, ◌≤◌, length, get_or};
@@ -15,7 +17,7 @@ use model::{Place, State, Symbol};
 use transitions::{TransitionTable, place_number};
 
 // A node and a state, or nothing.
-#[derive(Drop)]
+#[derive(Clone, Copy)]
 pub enum Successor {
     To(usize, State),
     Nowhere,

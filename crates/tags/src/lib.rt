@@ -1,4 +1,6 @@
 // Bytes of an element text (document 02, W6): their classes, by a table; the tags, each found by its `<`; and the first tag of no branch symbol.
+#![tactic(auto)]
+
 ghost use Rattle.std.specs.Prelude.{◌≡◌, ◌+◌, ◌<◌, length, get_or};
 ghost use Rattle.blocks.specs.Search.{lowest};
 ghost use Rattle.tags.specs.Classes.{class_of, IsTable};
@@ -69,7 +71,7 @@ fn class_of(b: u8) -> u8
 }
 
 // What a `<` stands before: an opening tag with its number, or a closing tag.
-#[derive(Drop)]
+#[derive(Clone, Copy)]
 pub enum Tag {
     Opens(u8),
     Closes,

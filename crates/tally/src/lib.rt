@@ -1,11 +1,13 @@
 // The tally of a batch of trees: how many were accepted, judged and not accepted, refused; and the percent accepted.
+#![tactic(auto)]
+
 ghost use Rattle.std.specs.Prelude.{◌≡◌};
 ghost use Rattle.tally.specs.Tally.{counted_up, percent_of};
 ghost use Rattle.tally.specs.Rounding.{PercentRight};
 
 use refusal::{Check, Fault, refused};
 
-#[derive(Drop)]
+#[derive(Clone, Copy)]
 pub struct Tally {
     pub accepted: u32,
     pub other: u32,
@@ -13,7 +15,7 @@ pub struct Tally {
 }
 
 // What became of one tree: document 01's accepted, other (judged, not accepted) and refused.
-#[derive(Drop)]
+#[derive(Clone, Copy)]
 pub enum Outcome {
     Accepted,
     Other,
@@ -21,7 +23,7 @@ pub enum Outcome {
 }
 
 // A tally after one more outcome, and whether the outcome was counted.
-#[derive(Drop)]
+#[derive(Clone, Copy)]
 pub struct Tallied {
     pub tally: Tally,
     pub check: Check,

@@ -39,7 +39,7 @@ fn start(k: usize) -> Automaton {
 }
 
 // An automaton's file: its branch symbols, its length, and what has to be answered, number 0 for a right one.
-#[derive(Drop)]
+#[derive(Clone, Copy)]
 pub struct File {
     pub branches: u32,
     pub length: usize,

@@ -16,7 +16,7 @@ const LONGEST: usize = 33000;
 
 // How a text is made: how many elements, all less than `height` below the root; how many of eight tags open an element where they may as well
 // close one; how many of sixteen tags have spaces before them; and one of how many elements has any number, none for 0.
-#[derive(Drop)]
+#[derive(Clone, Copy)]
 struct Shape {
     elements: usize,
     height: usize,
@@ -83,7 +83,7 @@ fn shape_of(k: usize) -> Shape {
 
 // A text that is being made: its length, how many elements are open, the depth of the next node, and how many elements are to come. The stack has
 // for each open element its number and 128 times its depth.
-#[derive(Drop)]
+#[derive(Clone, Copy)]
 struct Maker {
     length: usize,
     open: usize,

@@ -1,4 +1,6 @@
 // Element texts by chance, right and damaged, and automata for them (document 02, W6).
+#![tactic(auto)]
+
 pub mod automata;
 pub mod chance;
 pub mod damage;

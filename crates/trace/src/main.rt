@@ -1,6 +1,8 @@
 // Follows a walk and logs it (document 02, W7). Standard input has the length of an automaton's file in two bytes, low byte first, the budget in two
 // bytes, the automaton's file, and the tree's; the log goes to standard output, three bytes a position. A line on standard error says how the walk
 // ended, or why there is no log (tools/watch makes the input, and a status of what is said).
+#![tactic(auto)]
+
 use refusal::Refusal;
 use watch::Watched;
 

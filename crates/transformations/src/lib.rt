@@ -4,6 +4,8 @@
 //
 // And automata with three copies of these states, which accept a tree with symbol 3 at its root if the function of its left part has three
 // given values. Symbol 3 is the last in each round, and in round 5 the rows are over 64 before it: a tree is found all the same.
+#![tactic(auto)]
+
 ghost use Rattle.std.specs.Prelude.{◌≤◌};
 
 use emptiness::{Quick, Survey};
@@ -14,7 +16,7 @@ use sampling::rules::{Automaton, Rule};
 use search::files;
 
 // The answers to one automaton's file, and whether they are right.
-#[derive(Drop)]
+#[derive(Clone, Copy)]
 pub struct Outcome {
     pub survey: Survey,
     pub quick: Quick,

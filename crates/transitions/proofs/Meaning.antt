@@ -13,7 +13,7 @@ use borrow.Author.Tests.{eqb-true, eq-eqb, not-false}
 use lib.Dec.{eqb}
 use lib.Pow.{pow_pos}
 use Rattle.relation.proofs.BitLaws.{bit-zero, bit-pow, bit-pow-eq, bit_below, or-has}
-use Rattle.relation.specs.Sets.{member, member-has}
+use Rattle.relation.specs.Sets.{member, member_has}
 use Rattle.model.specs.declared.Side.{Side}
 use Rattle.model.specs.declared.Place.{Place}
 use Rattle.model.specs.declared.Move.{Move}
@@ -160,7 +160,7 @@ module _ (s : List ℕ) (h : Header) (e : parsed s ≡ Parsed.Read h) where
   file-symbols =
       let read = file-read s h e in
       let some = (count-passed format h.symbols 1 32 2 (counts-passed h read.counts).symbols).0 in
-      (some, λ σ k. not_beyond h.symbols h.branches σ (sets-fit h read.sets).branches ((member-has h.branches σ).0 k))
+      (some, λ σ k. not_beyond h.symbols h.branches σ (sets-fit h read.sets).branches ((member_has h.branches σ).0 k))
 
   -- the rule behind a transition is well placed
   placed : {σ p : ℕ} {τ : Place} {μ : Move} {q : ℕ} (a : Allowed h (content s) h.rules σ p τ μ q) → misplaced h.branches a.rule ≡ false
@@ -189,4 +189,4 @@ module _ (s : List ℕ) (h : Header) (e : parsed s ≡ Parsed.Read h) where
       let a = (transition-has h (content s) σ p τ (Move.Down d) q).0 k in
       let f : misplaced_move (member h.branches a.rule.symbol.0) a.rule.scope a.rule.step ≡ false = placed a in
       let g : not (member h.branches a.rule.symbol.0) ≡ false = rw a.applies.3 at f in
-      subst (In h.branches) a.applies.0 ((member-has h.branches a.rule.symbol.0).0 (not-false _ g))
+      subst (In h.branches) a.applies.0 ((member_has h.branches a.rule.symbol.0).0 (not-false _ g))

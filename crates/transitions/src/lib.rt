@@ -1,4 +1,6 @@
 // The transitions of an automaton, compiled from its rules into a table of sets of next states: a cell for each symbol, place, move and state.
+#![tactic(auto)]
+
 ghost use Rattle.std.specs.Prelude.{◌≡◌, ◌+◌, ◌*◌, ◌<◌, ◌≤◌, length, replicate};
 ghost use Rattle.automaton.specs.File.{LaidOut, parsed};
 ghost use Rattle.automaton.specs.Payload.{move_byte};

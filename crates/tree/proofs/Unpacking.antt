@@ -101,7 +101,7 @@ unpacked s k buffer rest file clear some joined =
       few = rw clear.count laid_out.most;
       size = rw joined (simp length-append (omega arith));
       nodes = rw joined (front-nodes k p rest nodes);
-      length-is = nodes-length k p nodes;
+      length_is = nodes-length k p nodes;
       reads = λ sg passed.
           let same = ap (λ (m : ℕ). nodes_check sg (nodes_of m p)) (sym clear.count) in
           nodes-left sg s file clear.layout clear.filler (same ∙ passed) ∙ ap ParsedTree.Nodes (sym clear.count);

@@ -21,5 +21,5 @@ pub record Unpacked (s : List ℕ) (k : ℕ) (buffer : List ℕ) : Type 0 where
   pub few : k ≤ 4096
   pub size : 4 + k ≤ length buffer
   pub nodes : take k (drop 4 buffer) ≡ nodes_of k (content s)
-  pub length-is : length (nodes_of k (content s)) ≡ k
+  pub length_is : length (nodes_of k (content s)) ≡ k
   pub reads : (sg : Signature) → nodes_check sg (nodes_of k (content s)) ≡ Check.Passed → read_tree sg s ≡ ParsedTree.Nodes k

@@ -61,9 +61,9 @@ module _ (nodes : List ℕ) (least : 1 ≤ length nodes) (most : length nodes �
   unfolding payload_of
   count-is = rw (joined_at 2, joined_at 3) (omega arith)
 
-  nodes-are : nodes_of (length nodes) joined ≡ nodes
+  nodes_are : nodes_of (length nodes) joined ≡ nodes
   unfolding joined payload_of
-  nodes-are = rw (file-content (payload_of nodes)) (take_at nodes _ (length nodes) refl)
+  nodes_are = rw (file-content (payload_of nodes)) (take_at nodes _ (length nodes) refl)
 
   kind-passes : kind_check tree_format joined ≡ Passed
   unfolding kind_check payload_of
@@ -81,7 +81,7 @@ module _ (nodes : List ℕ) (least : 1 ≤ length nodes) (most : length nodes �
   body_is : (sg : Signature) → body_check sg joined ≡ nodes_check sg nodes
   unfolding body_check joined
   body_is sg =
-      rw (count-is, nodes-are, ← payload-length nodes, (written-passes tree_format (payload_of nodes) payload).filler)
+      rw (count-is, nodes_are, ← payload-length nodes, (written-passes tree_format (payload_of nodes) payload).filler)
 
   -- the nodes, if lines 10 to 12 pass them
   pub nodes-read : (sg : Signature) → read_tree sg (file_of (payload_of nodes)) ≡ nodes_if (nodes_check sg nodes) (length nodes)
@@ -91,7 +91,7 @@ module _ (nodes : List ℕ) (least : 1 ≤ length nodes) (most : length nodes �
   -- and the nodes that are read are these
   pub nodes-back : nodes_of (length nodes) (content (file_of (payload_of nodes))) ≡ nodes
   unfolding joined
-  nodes-back = nodes-are
+  nodes-back = nodes_are
 
 -- ---- the file of a tree
 
@@ -107,9 +107,9 @@ tree-long t =
     file-length (payload_of (preorder t)) ∙ ap (λ (k : ℕ). 512 * blocks_needed k) n
 
 -- every tree over the signature with at most 4,096 nodes and height at most 64 reads back
-pub reads-back : (sg : Signature) (t : Tree) → Over (alphabet sg) t → size t ≤ 4096 → height t ≤ 64 → ReadsBack sg t
+pub reads_back : (sg : Signature) (t : Tree) → Over (alphabet sg) t → size t ≤ 4096 → height t ≤ 64 → ReadsBack sg t
 unfolding tree_file
-reads-back sg t over small low =
+reads_back sg t over small low =
     let n = size-preorder t in
     let some : 1 ≤ length (preorder t) = omega (arith, n, size-some t) in
     let most : length (preorder t) ≤ 4096 = omega (arith, n) in

@@ -1,4 +1,6 @@
 // Writes the file of a tree from its node list.
+#![tactic(auto)]
+
 ghost use Rattle.std.specs.Prelude.{◌≡◌, ◌++◌, ◌+◌, ◌*◌, ◌<◌, ◌≤◌, length, get_or, drop};
 ghost use Rattle.blocks.specs.FileOf.{blocks_needed, file_of};
 ghost use Rattle.tree.specs.Payload.{payload_of};

@@ -1,4 +1,6 @@
 // Plans, found by the survey or by chance, written as the files of letters, and the letters judged: whether both are what is expected, counted.
+#![tactic(auto)]
+
 use block_writer::Written;
 use emptiness::Survey;
 use enumerated::plan;
@@ -11,7 +13,7 @@ use sampling::rules::Automaton;
 use search::files;
 
 // A plan: its length, and where the survey found it the height told, else 99.
-#[derive(Drop)]
+#[derive(Clone, Copy)]
 pub struct Made {
     pub length: usize,
     pub height: usize,
@@ -99,7 +101,7 @@ fn write(file: &[u8], plan: &[u8], out: &mut [u8], room: usize) -> Written {
 }
 
 // How an input came out: as expected or not, and how the letter was judged (2 where none was written).
-#[derive(Drop)]
+#[derive(Clone, Copy)]
 struct Told {
     right: bool,
     judged: usize,

@@ -4,7 +4,7 @@ use sampling::random::{chance, draw};
 use search::files;
 
 // What is expected: a refusal of the file, of the buffer, or, number 0, none.
-#[derive(Drop)]
+#[derive(Clone, Copy)]
 pub struct Expected {
     pub file: Refusal,
     pub survey: Refusal,

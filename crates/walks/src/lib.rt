@@ -1,5 +1,7 @@
 // Automata by chance for which a run is worth following (document 02, W7): single, with one start state. In some of them records say a rule more than
 // once. It has nothing of the engine.
+#![tactic(auto)]
+
 use generated::families;
 use sampling::access::only;
 use sampling::random::{chance, draw, subset};

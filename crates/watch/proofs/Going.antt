@@ -90,7 +90,7 @@ module _ {accepting most start : ℕ} {s codes P R : List ℕ} (w : Walkable acc
   t = w.tree
 
   node-symbol : get_or s i 0 < 32
-  node-symbol = omega (arith, w.symbols i g.node, w.few-symbols)
+  node-symbol = omega (arith, w.symbols i g.node, w.few_symbols)
 
   state-low : p < 24
   state-low = omega (arith, g.state, w.proper.few)
@@ -104,7 +104,7 @@ module _ {accepting most start : ℕ} {s codes P R : List ℕ} (w : Walkable acc
   entry-asks room = (omega (arith, g.within, g.sized), (node-within w.tables i g.node).3)
 
   pass-read : (r : Bool) → (eqb i 0 && member accepting p) ≡ r → passes A i p ≡ r
-  pass-read r e = rw w.accepting-is e
+  pass-read r e = rw w.accepting_is e
 
   step-read : (y : Successor) → y ≡ goes P R i (decoded (get_or codes (choice_cell (get_or s i 0) (place_in P i) p) 0)) → successor A t i p ≡ y
   unfolding successor
@@ -112,7 +112,7 @@ module _ {accepting most start : ℕ} {s codes P R : List ℕ} (w : Walkable acc
       sym
       (e ∙ goes-read w.tables i g.node (decoded (get_or codes (choice_cell (get_or s i 0) (place_in P i) p) 0))
       ∙ ap (goes (parents_of t) (rights_of t) i)
-      (w.chosen.codes-are (get_or s i 0) (place_in P i) p (w.symbols i g.node) state-low
+      (w.chosen.codes_are (get_or s i 0) (place_in P i) p (w.symbols i g.node) state-low
       ∙ ap₂ (λ (σ : ℕ) (τ : Place). choice A.next σ τ p) (symbol-read w.tables i g.node) (place_read w.tables i g.node)))
 
   module _ (room : log_length budget ≤ length before) {after : List ℕ} (e : after ≡ put_entry log made i p) where

@@ -39,8 +39,8 @@ module _ {h : Header} {table s : List ℕ} (held : Held h table s) where
       subst (λ (b : ℕ). Stands b s 0 t) held.headed.branches
       (stands A.branches s 0 t [] shape (held.writes.text ∙ sym (append-nil (preorder t))))
 
-  pub few-nodes : size t ≤ 4096
-  few-nodes = omega (arith, nodes-long, held.few)
+  pub few_nodes : size t ≤ 4096
+  few_nodes = omega (arith, nodes-long, held.few)
 
   pub most-low : length s * h.states < 2 ^ 64
   most-low = let m : length s * h.states ≤ 4096 * 24 = mul-le-mul held.few held.limits.0 in omega (arith, m)
@@ -64,11 +64,11 @@ module _ {h : Header} {table s : List ℕ} (held : Held h table s) where
         automaton = A;
         tree = t;
         proper = proper;
-        few-symbols = omega (arith, held.headed.symbols, symbols-low);
+        few_symbols = omega (arith, held.headed.symbols, symbols-low);
         chosen = subst (λ (m : ℕ). Chosen m A.next codes) (sym held.headed.symbols) (choices A proper held.headed.tabled.compiled);
-        accepting-is = held.headed.accepting;
+        accepting_is = held.headed.accepting;
         starts = subst (λ (x : ℕ). lowest_of x < A.states) initial (proper.initials _ start);
         limit = ap₂ ◌*◌ (sym nodes-long) held.headed.tabled.states;
-        tables = tables-are t s P R _ _ few-nodes held.writes.text links;
+        tables = tables-are t s P R _ _ few_nodes held.writes.text links;
         symbols = λ i l. below_at A.symbols s symbols-below i (omega (arith, nodes-long));
       }

@@ -8,7 +8,7 @@ use mathlib.Core.List.{List, []}
 use lib.Dec.{eqb}
 use lib.ListN.{length}
 use borrow.Author.Tests.{eqb-true, eq-eqb}
-use Rattle.relation.specs.Sets.{member, member-has}
+use Rattle.relation.specs.Sets.{member, member_has}
 use Rattle.model.specs.declared.Place.TheVariants.{Root}
 use Rattle.model.specs.Trees.{Tree, size}
 use Rattle.model.specs.Runs.{Position, Config, done, ◌then◌, Run, Deterministic}
@@ -36,10 +36,10 @@ module _ (A : Automaton) (t : Tree) where
   passing p {i = i} n e =
       let both = and-is-true (eqb i 0) (member A.accepting p) e in
       let z : i ≡ 0 = eqb-true i 0 both.0 in
-      ((named-once (rw z at n) first).0, (member-has A.accepting p).0 both.1)
+      ((named-once (rw z at n) first).0, (member_has A.accepting p).0 both.1)
 
   pub root-passes : (p : ℕ) {u : Tree} {i : ℕ} → Numbered t i [] u → In A.accepting p → passes A i p ≡ true
-  root-passes p {i = i} n f = simp (eq-eqb i 0 (number-unique n first).0, (member-has A.accepting p).1 f)
+  root-passes p {i = i} n f = simp (eq-eqb i 0 (number-unique n first).0, (member_has A.accepting p).1 f)
 
   pub not-passing : (p : ℕ) {u : Tree} {i : ℕ} {α : Position} → Numbered t i α u → passes A i p ≡ false → ¬ Passing A t (α, p)
   not-passing p {u} {i} n e h =

@@ -23,9 +23,9 @@ pub record Walkable (accepting most start : ℕ) (s codes P R : List ℕ) : Type
   pub automaton : Automaton
   pub tree : Tree
   pub proper : Proper automaton
-  pub few-symbols : automaton.symbols ≤ 32
+  pub few_symbols : automaton.symbols ≤ 32
   pub chosen : Chosen automaton.symbols automaton.next codes
-  pub accepting-is : automaton.accepting ≡ accepting
+  pub accepting_is : automaton.accepting ≡ accepting
   pub starts : start < automaton.states
   pub limit : most_steps automaton tree ≡ most
   pub tables : Tables tree s P R

@@ -1,4 +1,6 @@
 // The run of a single automaton on a tree, step by step, into a log of three bytes an entry (document 02, W7).
+#![tactic(auto)]
+
 mod follow;
 
 ghost use Rattle.std.specs.Prelude.{◌≡◌, ◌<◌, ◌≤◌, length};
@@ -26,7 +28,7 @@ use transitions::TransitionTable;
 use tree::file::{ParsedTree, read_tree};
 
 // How the run ended, with the steps made; or a refusal.
-#[derive(Drop)]
+#[derive(Clone, Copy)]
 pub enum Watched {
     Passed(usize),
     Stuck(usize),

@@ -1,4 +1,6 @@
 // What the engine answers when a run is watched (document 02, W7), beside what it has to, and every byte of the log.
+#![tactic(auto)]
+
 mod engine;
 
 use followed::answer::{Expected, Question};

@@ -2,6 +2,8 @@
 // A case is 15 bytes (the length of its label, one byte; the lengths of the automaton's and of the tree's file and of the lent bytes, two each;
 // the budget, eight: all low byte first), then the label and the files. A file's length with 32768 added stands for the file of the case before.
 // tools/make_watch_cases.py makes them.
+#![tactic(auto)]
+
 ghost use Rattle.std.specs.Prelude.{◌+◌, ◌<◌, ◌≤◌, length};
 
 use refusal::Refusal;

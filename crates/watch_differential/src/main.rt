@@ -2,6 +2,8 @@
 // pair has a fault or several. All bytes of the log are compared. Where there is no fault the search over all configurations has to accept the tree
 // exactly if the run passed, and a budget of nodes times states is never spent. It writes how the runs end, the refusals by number, and how often the
 // engine differs.
+#![tactic(auto)]
+
 use followed::answer::Question;
 use sampling::random::seed;
 use sampling::rules::Automaton;

@@ -1,4 +1,6 @@
 // What is wrong with an input when a run is watched (document 02, W7): one thing at least, often more. It has nothing of the engine.
+#![tactic(auto)]
+
 use damaged::Damaged;
 use followed::follow::{configurations, follow};
 use followed::limits;

@@ -36,7 +36,7 @@ use Rattle.transitions.specs.Transitions.{automaton_of}
 use Rattle.transitions.proofs.Meaning.{file-proper}
 use Rattle.tree.specs.Payload.{tree_file}
 use Rattle.nodes.specs.Preorder.{alphabet}
-use Rattle.tree_writer.proofs.Reading.{reads-back}
+use Rattle.tree_writer.proofs.Reading.{reads_back}
 use Rattle.membership.specs.Judged.{signature_of, judged}
 use Rattle.membership.specs.declared.Answer.{Answer}
 use Rattle.membership.proofs.Proved.{judged-right}
@@ -66,7 +66,7 @@ module _ (sg : Signature) (p : List ℕ) (passed : PlanPassed sg p) where
       record {
         builds = plan-builds p (sound sg p passed);
         one = λ u b. builds-unique (rows_few p passed.few) b (plan-builds p (sound sg p passed));
-        reads-back = reads-back sg (plan_tree p) (plan-over sg p passed) few (plan-low p (sound sg p passed));
+        reads_back = reads_back sg (plan_tree p) (plan-over sg p passed) few (plan-low p (sound sg p passed));
       }
 
 -- ---- an answer, back to its checks
@@ -149,7 +149,7 @@ module _ (w : List ℕ) (h : Header) (read : parsed w ≡ Parsed.Read h) (buffer
   -- "N(h-1) + 1 rows", with N(h-1) at most 64
   plan-few : length plan ≤ 65
   plan-few =
-      let f = ((demand-3 A proper).says-found high).0 (plan, planned.is-surveys) in
+      let f = ((demand-3 A proper).says_found high).0 (plan, planned.is_surveys) in
       let same = count-unique A proper f.few.1 planned.witness.counted in
       omega (arith, f.few.2, planned.witness.rows)
 
@@ -160,7 +160,7 @@ module _ (w : List ℕ) (h : Header) (read : parsed w ≡ Parsed.Read h) (buffer
     found-passes : plan_check (signature_of (automaton_of h (content w))) p ≡ Passed
     found-passes =
         let n : length p ≡ 3 * length plan = ap length is ∙ bytes-length plan in
-        let k = found-kept (alphabet_of A) (algebra_of A) 64 high plan planned.is-surveys in
+        let k = found-kept (alphabet_of A) (algebra_of A) 64 high plan planned.is_surveys in
         let all : (i : ℕ) → i < length (plan_rows p) → RowBuilt (alphabet_of A) (plan_rows p) i =
         subst (λ (q : List WitnessRow). (i : ℕ) → i < length q → RowBuilt (alphabet_of A) q i) (sym rows_are)
         (rows-built (alphabet_of A) (language_of A) (algebra_of A) (recognizes A proper) plan k) in
@@ -215,9 +215,9 @@ module _ (w p before : List ℕ) where
       → FoundWritten w (automaton_of h (content w)) p before (witness_of w p before)
   found-promise h read buffer high rows told e =
       record {
-        not-15 = passes;
-        unless-stopped = λ a b. rw (witness-is h read) (stops-not (signature_of (automaton_of h (content w))) p before passes a b);
-        judged-accepted = λ n f. let t = file-promise h read n f in rw (front-is h n t) (accepts t.tree t.plan);
+        not_15 = passes;
+        unless_stopped = λ a b. rw (witness-is h read) (stops-not (signature_of (automaton_of h (content w))) p before passes a b);
+        judged_accepted = λ n f. let t = file-promise h read n f in rw (front-is h n t) (accepts t.tree t.plan);
         by_runs = runs;
       }
     where
@@ -235,8 +235,8 @@ module _ (w p before : List ℕ) where
 
       accepts : (t : Tree) → PlanTree (signature_of (automaton_of h (content w))) p t → judged w (tree_file t) ≡ Answer.Accepted
       accepts t pl =
-          let j = judged-right w (tree_file t) h (size t) read pl.reads-back.read in
-          let same : t ≡ j.tree = j.one t pl.reads-back.writes in
+          let j = judged-right w (tree_file t) h (size t) read pl.reads_back.read in
+          let same : t ≡ j.tree = j.one t pl.reads_back.writes in
           j.accepted.1 (subst (λ (u : Tree). Accepted (automaton_of h (content w)) u) same (runs t pl.builds))
 
   pub witness-right : Promise w p before (witness_of w p before)

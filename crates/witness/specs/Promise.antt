@@ -27,7 +27,7 @@ use Rattle.witness.specs.Written.{plan_file}
 pub record PlanTree (sg : Signature) (p : List ℕ) (t : Tree) : Type 0 where
   pub builds : Builds (plan_rows p) t
   pub one : (u : Tree) → Builds (plan_rows p) u → u ≡ t
-  pub reads-back : ReadsBack sg t
+  pub reads_back : ReadsBack sg t
 
 -- the answer is the length n: "write the last row's tree as a letter file"; "bytes after the file are unchanged"
 pub record TreeWritten (sg : Signature) (p before after : List ℕ) (n : ℕ) : Type 0 where
@@ -38,9 +38,9 @@ pub record TreeWritten (sg : Signature) (p before after : List ℕ) (n : ℕ) : 
 
 -- "a plan from Found, if neither 16 nor 13 stops it, gives a letter that this walker accepts": by what judging answers, and by runs
 pub record FoundWritten (w : List ℕ) (A : Automaton) (p before : List ℕ) (o : Filled) : Type 0 where
-  pub not-15 : plan_check (signature_of A) p ≡ Passed
-  pub unless-stopped : large_check p ≡ Passed → room_check (length (plan_file p)) (length before) ≡ Passed → o.answer ≡ Written.Bytes (length (plan_file p))
-  pub judged-accepted : (n : ℕ) → o.answer ≡ Written.Bytes n → judged w (take n o.out) ≡ Answer.Accepted
+  pub not_15 : plan_check (signature_of A) p ≡ Passed
+  pub unless_stopped : large_check p ≡ Passed → room_check (length (plan_file p)) (length before) ≡ Passed → o.answer ≡ Written.Bytes (length (plan_file p))
+  pub judged_accepted : (n : ℕ) → o.answer ≡ Written.Bytes n → judged w (take n o.out) ≡ Answer.Accepted
   pub by_runs : (t : Tree) → Builds (plan_rows p) t → Accepted A t
 
 -- of an automaton's file w, the plan p, the output before, and the answer with the output afterwards

@@ -1,6 +1,8 @@
 // Reads cases from standard input and writes a line for each: what writing a plan's tree as a file gives, and what the lent bytes are then.
 // A case is seven bytes (the length of its label; the lengths of the automaton's file, of the plan and of the lent bytes, low byte first, a
 // plan's 65535 standing for the plan that the survey finds), then the label, the file and the plan. tools/make_witness_cases.py makes them.
+#![tactic(auto)]
+
 ghost use Rattle.std.specs.Prelude.{◌<◌, ◌≤◌, length};
 
 use block_writer::Written;

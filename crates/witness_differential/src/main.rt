@@ -2,6 +2,8 @@
 // which has to be the file of the tree that the plan builds, byte for byte, with the bytes after it as they were; and judging it has to agree
 // with runs. Each plan is written once as it is and once damaged, or with a damaged automaton or too short an output. It writes the answers,
 // the heights found, and how often one was wrong.
+#![tactic(auto)]
+
 use sampling::access::number;
 use sampling::random::{chance, seed};
 use sampling::report::{labelled, text};

@@ -2,7 +2,7 @@
 -- Assumes nothing.
 use borrow.Author.Rules.{rules}
 use Prim.Native.Nat.{◌-◌, ◌≤◌}
-use Rattle.reporting.specs.Trace.{read-gave}
+use Rattle.reporting.specs.Trace.{read_gave}
 use native.Mathlib.Omega.{arith}
 use lib.ListN.{drop, length-take, length-drop}
 use borrow.Rule.Slice.PartMut.{take_put}
@@ -31,7 +31,7 @@ returns c =
     omega (arith, c.before.before.read-full.ensures.0, c.before.buffer.given.0, length-take (k.to - k.from) (drop k.from k.buffer.now), length-drop k.from k.buffer.now) in (
       omega (arith, c.before.before.before.before.before.before.requires),
       take_put k.from (k.to - k.from) k.buffer.now c.before.before.read-full.new.1.0 (omega (arith, c.before.before.before.before.before.before.requires)),
-      read-gave k.input (k.to - k.from) c.before.before.read-full.result few,
+      read_gave k.input (k.to - k.from) c.before.before.read-full.result few,
       omega (arith, c.before.buffer.given.1, c.before.before.before.before.before.before.requires),
     )
 

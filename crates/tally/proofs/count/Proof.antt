@@ -99,8 +99,8 @@ module _ {M : Type 1} {𝓤 : Ura M} (𝓛 : Logic 𝓤) (mem' : Memory → SPro
     tally-is : Is T.the_row r.tally (tally-vals r.tally)
     tally-is = (LL.owed R.the_type R'.the_laws r _ is).0
 
-    check-is : Is K.the_row r.check (EL.vals K.the_type K'.the_laws r.check)
-    check-is = (LL.owed R.the_type R'.the_laws r _ is).1.0
+    check_is : Is K.the_row r.check (EL.vals K.the_type K'.the_laws r.check)
+    check_is = (LL.owed R.the_type R'.the_laws r _ is).1.0
 
     exits : ent 𝓤 (sep 𝓤 (A.obs γ ((T.the_row).coded.code r.tally)) (sep 𝓤 (A.bor κ (Body (mem T.the_row) b o γ)) (A.lft κ q)))
         (Post (EL.val K.the_type K'.the_laws r.check))
@@ -111,7 +111,7 @@ module _ {M : Type 1} {𝓤 : Ura M} (𝓛 : Logic 𝓤) (mem' : Memory → SPro
         says ! (ap (λ (t : Tallied). t.tally) e, ap (λ (t : Tallied). t.check) e) $ nothing ! $ move ! (3 ∷ 0 ∷ []) $ join ! $
         frame ! $ feq_i ! (List Val) (vptr b o ∷ []) (vptr b o ∷ []) refl $ fjoin3 ! $ nothing ! $
         owned ! O.the_row (Is O.the_row) (EL.makes O.the_type O'.the_plain 𝓛) out _ outcome-is $ fjoin ! $ move ! (1 ∷ 0 ∷ []) $ fjoin ! $
-        owned ! K.the_row (Is K.the_row) (EL.makes K.the_type K'.the_plain 𝓛) r.check _ check-is $ move ! (1 ∷ 0 ∷ []) $ done !
+        owned ! K.the_row (Is K.the_row) (EL.makes K.the_type K'.the_plain 𝓛) r.check _ check_is $ move ! (1 ∷ 0 ∷ []) $ done !
 
   module _ (C : Calls 𝓤 H) (Λ : Loops 𝓤 H) (fm : FmC 𝓤 H 𝓛.laws C) (known : Triple 𝓤 (C #tally·counted) (Counted 𝓛 mem' run)) where
     walk : ent 𝓤 (on_entry 𝓛 f.signature (κ, tt) (q, tt) x at) (WpFn 𝓤 H C Λ code.function (vptr b o ∷ outcome-vals out) Post)
@@ -143,7 +143,7 @@ module _ {M : Type 1} {𝓤 : Ura M} (𝓛 : Logic 𝓤) (mem' : Memory → SPro
         assigns ! (of_opd ! (load ! (from ! (fld ! refl (stop !))) (look_in ! 6 (sub ! 0 refl (whole !))))) (from ! (hop ! (look ! 10 refl) (stop !)))
         (store_raw ! 0 refl ((LL.lawful T.the_type T'.the_laws 𝓛).typed r.tally _ (tally-is r e u is)).0) $
         assigns ! (of_opd ! (load ! (from ! (fld ! refl (stop !))) (look_in ! 6 (sub ! 1 refl (whole !))))) (from ! (stop !))
-        (init ! 12 refl ((EL.lawful K.the_type K'.the_laws 𝓛 tt).typed r.check _ (check-is r e u is)).0) $
+        (init ! 12 refl ((EL.lawful K.the_type K'.the_laws 𝓛 tt).typed r.check _ (check_is r e u is)).0) $
         owned ! T.the_row (Is T.the_row) (LL.makes T.the_type T'.the_plain 𝓛) r.tally _ (tally-is r e u is) $ move ! (1 ∷ 0 ∷ []) $
         closes ! tt T.the_row r.tally (tally-vals r.tally) b o $
         -- [obs; the borrow; the token; _4; …; _3; …; _2; …; _1; …; _0; …]

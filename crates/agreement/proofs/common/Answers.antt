@@ -1,0 +1,17 @@
+-- `agreement::common` meets its contract: whole entries of the bytes in common.
+-- Assumes nothing.
+use borrow.Author.Rules.{rules}
+use native.Mathlib.Omega.{arith}
+use mathlib.Core.Path.{refl, sym}
+use lib.Seq.{length-take-le}
+use Rattle.agreement.proofs.Agreeing.{common-within, common-longest}
+use Rattle.agreement.proofs.common.Goals as goal
+
+pub slice_bounds-result-end : goal.slice_bounds-result-end
+slice_bounds-result-end c =
+    let given = c.before.before.before.before.args in
+    let most = common-within given.first.now given.second.now in
+    sym (length-take-le _ _ (omega (arith, c.common-bytes.ensures, most.0, most.1)))
+
+pub returns : goal.returns
+returns c = (refl, (rw c.common-bytes.ensures refl, common-longest _ _))

@@ -1,0 +1,49 @@
+-- `answers::judge_all` meets its contract: by what reading says.
+-- Assumes nothing.
+-- what is equal to the definition's answers is right, file by file
+-- the automaton's file reads
+use Prim.Native.Nat.{ℕ}
+use mathlib.Core.Path.{◌≡◌, sym, ◌∙◌}
+use mathlib.Core.List.{List}
+use Rattle.blocks.specs.Blocks.{content}
+use Rattle.automaton.specs.File.{parsed}
+use Rattle.automaton.specs.declared.Header.{Header}
+use Rattle.automaton.specs.declared.file.Parsed.{Parsed}
+use Rattle.automaton.proofs.Passed.{file-limits}
+use Rattle.transitions.specs.Transitions.{automaton_of}
+use Rattle.transitions.proofs.Laws.{loaded-read}
+use Rattle.overloops.specs.Ready.{Headed}
+use Rattle.overloops.proofs.Laws.{file-headed}
+use Rattle.answers.specs.All.{Outcome, judged_all, Each}
+use Rattle.answers.proofs.Laws.{all-refused, all_read}
+use Rattle.answers.proofs.Eachwise.{each}
+use borrow.Author.Rules.{rules}
+use Rattle.answers.proofs.judge_all.Goals as goal
+
+both : (w s lent g : List ℕ) (o : Outcome) → o ≡ judged_all w s lent g → (o ≡ judged_all w s lent g) × Each w s o
+both w s lent g o e = (e, rw e (each w s lent g))
+
+module _ (c : tie.After-known-told2) where
+  abbrev w : List ℕ
+  w = c.before.before.before.before.before.before.before.before.before.args.automaton.now
+
+  abbrev h : Header
+  h = c.before.header.given.0.0
+
+  read : parsed w ≡ Parsed.Read h
+  read = sym c.before.before.before.load.ensures.0 ∙ c.before.header.given.1
+
+  headed : Headed (automaton_of h (content w)) h c.before.before.before.load.new.1.0
+  headed = file-headed w h _ read (loaded-read _ h w _ _ c.before.header.given.1 c.before.before.before.load.ensures.1)
+
+pub judge_files-requires : goal.judge_files-requires
+judge_files-requires c κs = let told = c in file-limits (w told) (h told) (read told)
+
+pub returns-in-Refused : goal.returns-in-Refused
+returns-in-Refused c = both _ _ _ _ _ (all-refused _ _ _ _ _ (sym c.load.ensures.0 ∙ c.refusal-1.given.1))
+
+pub returns-in-Read : goal.returns-in-Read
+returns-in-Read c =
+    let told = c in
+    let e = c.judge_files.ensures _ (headed told) in
+    both _ _ _ _ _ (all_read _ _ _ _ _ (read told) _ _ _ e.0 e.1 e.2)

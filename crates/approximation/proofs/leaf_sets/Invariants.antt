@@ -1,0 +1,21 @@
+-- `approximation::leaf_sets` meets its contract. The invariant: the leaves below the symbol are joined.
+-- Assumes nothing.
+use borrow.Author.Rules.{rules}
+use borrow.Author.Tests.{not-true, not-false}
+use Prim.Native.Nat.{◌-◌, ◌≤◌}
+use mathlib.Core.Path.{◌≡◌, refl, sym, ap, ap₂, ◌∙◌}
+use mathlib.Core.Bool.{true, false}
+use mathlib.Core.Logic.{⊎_elim}
+use Rattle.algorithms.specs.Automaton.{Automaton, Proper, numbered}
+use Rattle.algorithms.specs.Saturate.{parts, algebra_of}
+use Rattle.overloops.specs.Tables.{Leaves}
+use Rattle.classes.specs.Classes.{parts_in}
+use Rattle.approximation.proofs.Unions.{full-leaf_class, nothing, full-nothing, gathered, gathered_none, gathered-turn, leaves-gathered}
+use Rattle.approximation.proofs.leaf_sets.Given as goal
+
+abbrev pub invariant-loop-symbol : goal.invariant-loop-symbol
+invariant-loop-symbol l = (l.symbol ≤ l.header.symbols)
+    × ((A : Automaton) → Proper A → Leaves A l.leaves → parts_in l.sets ≡ gathered nothing (algebra_of A).leaf_class (numbered 0 l.header.branches 0 l.symbol))
+
+abbrev pub decreases-loop-symbol : goal.decreases-loop-symbol
+decreases-loop-symbol l = l.header.symbols - l.symbol

@@ -1,0 +1,22 @@
+-- `approximation::settled` meets its contract. The invariant: the turns left lead from the sets to the least.
+-- Assumes nothing.
+-- one turn: nothing is new, or the rest goes on from what was formed
+-- no turn is left
+use borrow.Author.Rules.{rules}
+use Prim.Native.Nat.{ℕ, suc, ◌+◌, ◌-◌, ◌<◌, ◌≤◌}
+use mathlib.Core.Bool.{true, false}
+use mathlib.Core.Path.{◌≡◌, refl, sym, ◌∙◌}
+use native.Mathlib.Omega.{arith}
+use Rattle.algorithms.specs.Automaton.{Automaton}
+use Rattle.algorithms.specs.Saturate.{Parts, same_parts}
+use Rattle.algorithms.specs.Approximate.{formed, settled}
+use Rattle.overloops.specs.Ready.{Headed}
+use Rattle.classes.specs.Classes.{parts_in}
+use Rattle.approximation.proofs.settled.Given as goal
+
+abbrev pub invariant-loop-turn : goal.invariant-loop-turn
+invariant-loop-turn l = (l.turn ≤ 1153)
+    × ((A : Automaton) → Headed A l.header l.table → settled A (1153 - l.turn) (parts_in l.sets) ≡ settled A 1153 (parts_in l.initial.sets))
+
+abbrev pub decreases-loop-turn : goal.decreases-loop-turn
+decreases-loop-turn l = 1153 - l.turn

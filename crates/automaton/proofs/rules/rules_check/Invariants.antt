@@ -1,0 +1,16 @@
+-- `automaton::rules::rules_check` meets its contract. The invariant: the checks that are left, from rule i on, give the answer.
+-- Assumes nothing.
+use borrow.Author.Rules.{rules}
+use Prim.Native.Nat.{◌-◌, ◌≤◌}
+use mathlib.Core.Path.{◌≡◌, sym, ◌∙◌}
+use native.Mathlib.Nat.{sub-zero}
+use Rattle.refusal.specs.Checks.{check_each, check_from}
+use Rattle.refusal.proofs.Cases.{each_next, each-stop, each-done}
+use Rattle.automaton.specs.Rules.{rule_check}
+use Rattle.automaton.proofs.rules.rules_check.Given as goal
+
+abbrev pub invariant-loop-i : goal.invariant-loop-i
+invariant-loop-i l = (l.i ≤ l.rules) × (check_each (rule_check l.header l.content) l.rules ≡ check_from (rule_check l.header l.content) l.i (l.rules - l.i))
+
+abbrev pub decreases-loop-i : goal.decreases-loop-i
+decreases-loop-i l = l.rules - l.i

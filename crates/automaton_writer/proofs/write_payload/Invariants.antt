@@ -1,0 +1,19 @@
+-- `automaton_writer::write_payload` meets its contract.
+-- Assumes nothing.
+use borrow.Author.Rules.{rules}
+use native.Mathlib.Omega.{arith}
+use Prim.Native.Nat.{◌+◌, ◌-◌, ◌<◌, ◌≤◌}
+use mathlib.Core.Path.{◌≡◌, refl, sym, ap}
+use mathlib.Core.List.{◌++◌}
+use lib.ListN.{length, take, drop, length-set}
+use lib.Seq.{take_all}
+use Rattle.blocks.proofs.Laws.{copied_more}
+use Rattle.automaton.specs.Payload.{payload_of}
+use Rattle.automaton_writer.proofs.Bytes.{payload-length}
+use Rattle.automaton_writer.proofs.write_payload.Given as goal
+
+abbrev pub invariant-loop-i : goal.invariant-loop-i
+invariant-loop-i l = (l.i ≤ l.len) × (length l.payload ≡ length l.initial.payload) × (l.payload ≡ take l.i (payload_of l.header l.records) ++ drop l.i l.initial.payload)
+
+abbrev pub decreases-loop-i : goal.decreases-loop-i
+decreases-loop-i l = l.len - l.i

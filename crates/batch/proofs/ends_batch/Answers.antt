@@ -1,0 +1,8 @@
+-- `batch::ends_batch` meets its contract: the definition's cases.
+-- Assumes nothing.
+use borrow.Author.Rules.{rules}
+use mathlib.Core.Path.{refl}
+use Rattle.batch.proofs.ends_batch.Goals as goal
+
+pub returns-in-Refused : goal.returns-in-Refused
+returns-in-Refused c = rw c.answer-1.given.1 refl

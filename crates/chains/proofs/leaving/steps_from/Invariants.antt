@@ -1,0 +1,13 @@
+-- `chains::leaving::steps_from` ends, after one turn for each rule.
+-- Assumes nothing.
+use borrow.Author.Rules.{rules}
+use Prim.Native.Nat.{◌-◌, ◌≤◌}
+use mathlib.Core.Path.{◌≡◌}
+use lib.ListN.{length}
+use Rattle.chains.proofs.leaving.steps_from.Given as goal
+
+abbrev pub invariant-loop-rule : goal.invariant-loop-rule
+invariant-loop-rule l = (l.rule ≤ l.rule-end) × (length l.reached ≡ length l.initial.reached)
+
+abbrev pub decreases-loop-rule : goal.decreases-loop-rule
+decreases-loop-rule l = l.rule-end - l.rule

@@ -1,0 +1,7 @@
+-- `class_tables::put_side` meets its contract.
+-- Assumes nothing.
+use Rattle.std.proofs.Common.{rules}
+use Rattle.class_tables.proofs.put_side.Goals as goal
+
+pub returns : goal.returns
+returns c = rw c.side_number.ensures.0 at c.put_rows.ensures

@@ -1,0 +1,8 @@
+-- `classes::leaf_accepted` meets its contract: a loop at the root leads from an initial state to a final one.
+-- Assumes nothing.
+use borrow.Author.Rules.{rules}
+use Rattle.overloops.proofs.Laws.{accepted-by}
+use Rattle.classes.proofs.leaf_accepted.Goals as goal
+
+pub returns : goal.returns
+returns c = λ A k. accepted-by A _ _ _ _ _ k.initial k.accepting (c.leaf_loops.ensures A k.tabled) c.meets.ensures

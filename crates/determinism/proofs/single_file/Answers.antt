@@ -1,0 +1,41 @@
+-- `determinism::single_file` meets its contract: by what loading says, of the file's automaton. What that means is then a law of the
+-- definition.
+-- Assumes nothing.
+-- what is equal to the definition's answer is right
+-- the file reads
+use borrow.Author.Rules.{rules}
+use Prim.Native.Nat.{ℕ}
+use mathlib.Core.Path.{◌≡◌, refl, sym, ap, ◌∙◌}
+use mathlib.Core.List.{List}
+use Rattle.automaton.specs.File.{parsed}
+use Rattle.automaton.specs.declared.file.Parsed.{Parsed}
+use Rattle.automaton.proofs.Passed.{file-limits}
+use Rattle.determinism.specs.Single.{single_if, single_of}
+use Rattle.determinism.specs.Singles.{SingleRight}
+use Rattle.determinism.specs.declared.Singleness.{Singleness}
+use Rattle.transitions.specs.Transitions.{automaton_of}
+use Rattle.determinism.proofs.Determinism.{single-determined}
+use Rattle.transitions.proofs.Laws.{loaded-read}
+use Rattle.determinism.proofs.RepeatedRecords.{single-right}
+use Rattle.determinism.proofs.single_file.Goals as goal
+
+both : (s : List ℕ) (r : Singleness) → r ≡ single_of s → (r ≡ single_of s) × SingleRight s r
+both s r e = (e, rw e (single-right s))
+
+read_is : (c : tie.After-known-told2) → parsed c.before.before.before.before.before.before.args.file.now ≡ Parsed.Read c.before.header.given.0.0
+read_is c = sym c.before.before.before.load.ensures.0 ∙ c.before.header.given.1
+
+pub single_prepared-requires : goal.single_prepared-requires
+unfolding single_of
+single_prepared-requires c κs = file-limits _ _ (read_is c)
+
+pub returns-in-Refused : goal.returns-in-Refused
+unfolding single_of
+returns-in-Refused c = both _ _ (rw (sym c.load.ensures.0 ∙ c.refusal-1.given.1))
+
+pub returns-in-Read : goal.returns-in-Read
+unfolding single_of
+returns-in-Read c =
+    let told = c in
+    let compiled = loaded-read _ _ _ _ _ told.header-1.given.1 told.load.ensures.1 in
+    both _ _ (rw (read_is told) (c.single_prepared.ensures (automaton_of _ _) compiled refl refl ∙ ap single_if (sym (single-determined _ _ (file-limits _ _ (read_is told)).0))))

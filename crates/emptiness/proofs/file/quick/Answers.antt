@@ -1,0 +1,33 @@
+-- `emptiness::file::quick` meets its contract: a refused file is told, and any other answered by its automaton. Demand 3 is then a law of the
+-- definition.
+-- Assumes nothing.
+-- what is equal to the definition's answer meets demand 3
+use borrow.Author.Rules.{rules}
+use Prim.Native.Nat.{ℕ}
+use mathlib.Core.Path.{◌≡◌, sym, ◌∙◌}
+use mathlib.Core.List.{List}
+use Rattle.overloops.proofs.Laws.{prepared-ready}
+use Rattle.emptiness.specs.Checked.{checked}
+use Rattle.emptiness.specs.Demand3.{Demand3Quick}
+use Rattle.emptiness.proofs.Proved.{checked-right}
+use Rattle.emptiness.specs.declared.Quick.{Quick}
+use Rattle.emptiness.proofs.file.quick.Goals as goal
+
+both : (w : List ℕ) (r : Quick) → r ≡ checked w → (r ≡ checked w) × Demand3Quick w r
+both w r e = (e, rw e (checked-right w))
+
+pub quick_prepared-requires : goal.quick_prepared-requires
+quick_prepared-requires c κs =
+    let told = c in
+    (prepared-ready _ _ _ _ _ _ _ told.header-1.given.1 told.prepare.ensures.1).0
+
+pub returns-in-Refused : goal.returns-in-Refused
+unfolding checked
+returns-in-Refused c = both _ _ (rw (sym c.prepare.ensures.0 ∙ c.refusal-1.given.1))
+
+pub returns-in-Read : goal.returns-in-Read
+unfolding checked
+returns-in-Read c =
+    let told = c in
+    let ready = prepared-ready _ _ _ _ _ _ _ told.header-1.given.1 told.prepare.ensures.1 in
+    both _ _ (rw (sym told.prepare.ensures.0 ∙ told.header-1.given.1) (c.quick_prepared.ensures _ ready.1))

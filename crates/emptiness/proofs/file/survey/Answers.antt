@@ -1,0 +1,32 @@
+-- `emptiness::file::survey` meets its contract: a refused file is told, and any other answered by its automaton. Demand 3 is then a law of the
+-- definition.
+-- Assumes nothing.
+-- what is equal to the definition's answer and buffer meets demand 3
+use borrow.Author.Rules.{rules}
+use Prim.Native.Nat.{ℕ}
+use mathlib.Core.Path.{◌≡◌, sym, ◌∙◌}
+use mathlib.Core.List.{List}
+use Rattle.overloops.proofs.Laws.{prepared-ready}
+use Rattle.emptiness.specs.Surveyed.{Answered, surveyed}
+use Rattle.emptiness.specs.Demand3.{Demand3}
+use Rattle.emptiness.proofs.Proved.{surveyed-right}
+use Rattle.emptiness.proofs.file.survey.Goals as goal
+
+both : (w before : List ℕ) (o : Answered) → o ≡ surveyed w before → (o ≡ surveyed w before) × Demand3 w before o
+both w before o e = (e, rw e (surveyed-right w before))
+
+pub survey_prepared-requires : goal.survey_prepared-requires
+survey_prepared-requires c κs =
+    let told = c in
+    (prepared-ready _ _ _ _ _ _ _ told.header-1.given.1 told.prepare.ensures.1).0
+
+pub returns-in-Refused : goal.returns-in-Refused
+unfolding surveyed
+returns-in-Refused c = both _ _ _ (rw (sym c.prepare.ensures.0 ∙ c.refusal-1.given.1))
+
+pub returns-in-Read : goal.returns-in-Read
+unfolding surveyed
+returns-in-Read c =
+    let told = c in
+    let ready = prepared-ready _ _ _ _ _ _ _ told.header-1.given.1 told.prepare.ensures.1 in
+    both _ _ _ (rw (sym told.prepare.ensures.0 ∙ told.header-1.given.1) (c.survey_prepared.ensures _ ready.1))

@@ -1,0 +1,19 @@
+-- `engine::numbers::engine_canonical` meets its contract: it is `canonical`, with the answer as numbers; that answer meets the promise.
+-- Assumes nothing.
+use borrow.Author.Rules.{rules}
+use mathlib.Core.Path.{ap, ◌∙◌}
+use Rattle.block_writer.specs.Written.{Filled}
+use Rattle.numbering.specs.Numbers.{written_number, written_told}
+use Rattle.engine.proofs.numbers.engine_canonical.Goals as goal
+
+pub returns : goal.returns
+returns c =
+    let answer = c.canonical in
+    let e = answer.ensures.0 in (
+      (
+        c.Put-written.ensures.0 ∙ ap (λ (o : Filled). written_number o.answer) e,
+        c.Put-written.ensures.1 ∙ ap (λ (o : Filled). written_told o.answer) e,
+        ap (λ (o : Filled). o.out) e,
+      ),
+      (answer.result, c.Put-written.ensures.0, c.Put-written.ensures.1, answer.ensures.1),
+    )

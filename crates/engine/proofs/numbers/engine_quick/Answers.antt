@@ -1,0 +1,14 @@
+-- `engine::numbers::engine_quick` meets its contract: it is `quick`, with the answer as numbers; that answer meets the demand.
+-- Assumes nothing.
+use borrow.Author.Rules.{rules}
+use mathlib.Core.Path.{ap, ◌∙◌}
+use Rattle.numbering.specs.Numbers.{quick_number, quick_told}
+use Rattle.engine.proofs.numbers.engine_quick.Goals as goal
+
+pub returns : goal.returns
+returns c =
+    let answer = c.quick in
+    let e = answer.ensures.0 in (
+      (c.put_quick.ensures.0 ∙ ap quick_number e, c.put_quick.ensures.1 ∙ ap quick_told e),
+      (answer.result, c.put_quick.ensures.0, c.put_quick.ensures.1, answer.ensures.1),
+    )

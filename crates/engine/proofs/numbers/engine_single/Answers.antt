@@ -1,0 +1,14 @@
+-- `engine::numbers::engine_single` meets its contract: it is `single`, with the answer as numbers; that answer is right.
+-- Assumes nothing.
+use borrow.Author.Rules.{rules}
+use mathlib.Core.Path.{ap, ◌∙◌}
+use Rattle.numbering.specs.Numbers.{single_number, single_told}
+use Rattle.engine.proofs.numbers.engine_single.Goals as goal
+
+pub returns : goal.returns
+returns c =
+    let answer = c.single in
+    let e = answer.ensures.0 in (
+      (c.put_single.ensures.0 ∙ ap single_number e, c.put_single.ensures.1 ∙ ap single_told e),
+      (answer.result, c.put_single.ensures.0, c.put_single.ensures.1, answer.ensures.1),
+    )

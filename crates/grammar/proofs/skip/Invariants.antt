@@ -1,0 +1,21 @@
+-- `grammar::skip` meets its contract.
+-- Assumes nothing.
+use borrow.Author.Rules.{rules}
+use native.Mathlib.Omega.{arith}
+use Prim.Native.Nat.{ℕ, ◌-◌, ◌<◌, ◌≤◌}
+use mathlib.Core.Path.{◌≡◌, refl, sym, ◌∙◌}
+use mathlib.Core.List.{List}
+use lib.ListN.{length, get_or, drop}
+use Rattle.tags.specs.Tags.{nodes_in}
+use Rattle.tags.proofs.Listed.{nodes-on}
+use Rattle.tags.proofs.ClassLaws.{space-less}
+use Rattle.grammar.specs.Pushdown.{between, Goes, here}
+use Rattle.tags.specs.Classes.{class_of}
+use Rattle.grammar.proofs.Going.{trans, space-go, one_more}
+use Rattle.grammar.proofs.skip.Given as goal
+
+abbrev pub invariant-loop-next : goal.invariant-loop-next
+invariant-loop-next l = (l.at ≤ l.next) × (l.next ≤ length l.text) × ((stack : List ℕ) → Goes l.text l.at (between stack) l.next (between stack)) × ((i : ℕ) → l.at ≤ i → i < l.next → class_of (get_or l.text i 0) ≡ 0) × (nodes_in (drop l.at l.text) ≡ nodes_in (drop l.next l.text))
+
+abbrev pub decreases-loop-next : goal.decreases-loop-next
+decreases-loop-next l = length l.text - l.next

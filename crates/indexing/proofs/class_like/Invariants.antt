@@ -1,0 +1,12 @@
+-- `indexing::class_like` meets its contract.
+-- Assumes nothing.
+use native.Mathlib.Omega.{arith}
+use Prim.Native.Nat.{◌-◌, ◌≤◌}
+use borrow.Author.Rules.{rules}
+use Rattle.indexing.proofs.class_like.Given as goal
+
+abbrev pub invariant-loop-step : goal.invariant-loop-step
+invariant-loop-step l = l.step ≤ 4
+
+abbrev pub decreases-loop-step : goal.decreases-loop-step
+decreases-loop-step l = 4 - l.step

@@ -1,0 +1,18 @@
+-- `interchange::avoiding` meets its contract. The invariant: the symbols in the set are below the next, and avoid the states.
+-- Assumes nothing.
+use native.Mathlib.Omega.{arith}
+use mathlib.Core.Path.{◌≡◌}
+use Rattle.relation.proofs.BitLaws.{bit-zero}
+use Prim.Native.Nat.{ℕ, ◌+◌, ◌*◌, ◌-◌, ◌≤◌, ◌<◌}
+use lib.Bits.{bit_and}
+use lib.ListN.{get_or}
+use Rattle.relation.specs.Bit.{bit}
+use Rattle.interchange.proofs.Laws.{or-each}
+use borrow.Author.Rules.{rules}
+use Rattle.interchange.proofs.avoiding.Given as goal
+
+abbrev pub invariant-loop-symbol : goal.invariant-loop-symbol
+invariant-loop-symbol l = (l.symbol ≤ l.symbols) × ((σ : ℕ) → bit l.out σ ≡ 1 → (σ < l.symbol) × (bit_and (get_or l.entered (σ * 2 + l.at) 0) l.set ≡ 0))
+
+abbrev pub decreases-loop-symbol : goal.decreases-loop-symbol
+decreases-loop-symbol l = l.symbols - l.symbol

@@ -1,0 +1,9 @@
+-- `judging::credit::end` meets its contract.
+-- Assumes nothing.
+use Rattle.judging.proofs.Laws.{kept_set}
+use native.Mathlib.Omega.{arith}
+use borrow.Author.Rules.{rules}
+use Rattle.judging.proofs.credit.end.Goals as goal
+
+pub returns : goal.returns
+returns c = kept_set _ 4 _ (omega arith)

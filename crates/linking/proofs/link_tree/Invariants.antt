@@ -1,0 +1,19 @@
+-- `linking::link_tree` meets its contract. The invariant: the stack and the tables tell of the trees that the list writes from a node on.
+-- Assumes nothing.
+use borrow.Author.Tests.{eqb-true}
+use Rattle.linking.proofs.Steps.{begun, ended}
+use Rattle.linking.specs.Placed.{Loaded}
+use Rattle.passes.proofs.Laws.{from}
+use Rattle.nodes.proofs.Reached.{symbol-here}
+use native.Mathlib.Omega.{arith}
+use mathlib.Core.Path.{◌≡◌, refl, sym, ◌∙◌}
+use Prim.Native.Nat.{ℕ, ◌≤◌}
+use lib.ListN.{length, drop, length-drop}
+use borrow.Author.Rules.{rules}
+use Rattle.linking.proofs.link_tree.Given as goal
+
+abbrev pub invariant-loop-at : goal.invariant-loop-at
+invariant-loop-at l = (l.at ≤ length l.symbols) × (length l.parents ≡ length l.initial.parents) × (length l.rights ≡ length l.initial.rights) × Loaded l.signature (length l.symbols) l.parents l.rights l.words (drop l.at l.symbols) l.stack
+
+abbrev pub decreases-loop-at : goal.decreases-loop-at
+decreases-loop-at l = l.at

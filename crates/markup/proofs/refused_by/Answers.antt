@@ -1,0 +1,7 @@
+-- `markup::refused_by` meets its contract.
+-- Assumes nothing.
+use borrow.Author.Rules.{rules}
+use Rattle.markup.proofs.refused_by.Goals as goal
+
+pub returns-in-Refused : goal.returns-in-Refused
+returns-in-Refused c = rw c.check-1.given.1

@@ -1,0 +1,16 @@
+-- `overloops::put_rows` meets its contract. The invariant: the first p rows are written.
+-- Assumes nothing.
+use borrow.Author.Rules.{rules}
+use Prim.Native.Nat.{◌-◌, ◌≤◌}
+use mathlib.Core.Path.{◌≡◌, refl}
+use native.Mathlib.Omega.{arith}
+use lib.ListN.{length, length-set}
+use Rattle.overloops.specs.Tables.{PutFirst}
+use Rattle.overloops.proofs.Laws.{put-none, put-more}
+use Rattle.overloops.proofs.put_rows.Given as goal
+
+abbrev pub invariant-loop-p : goal.invariant-loop-p
+invariant-loop-p l = (l.p ≤ 24) × (length l.table ≡ length l.initial.table) × PutFirst l.p l.at l.rows.rows l.initial.table l.table
+
+abbrev pub decreases-loop-p : goal.decreases-loop-p
+decreases-loop-p l = 24 - l.p

@@ -1,0 +1,31 @@
+-- `reachability::judge_small` meets its contract: the tree is linked, and what the search finds is acceptance.
+-- Assumes nothing.
+use borrow.Author.Rules.{rules}
+use borrow.Author.Tests.{not-false}
+use native.Mathlib.Omega.{arith}
+use Rattle.relation.proofs.Pairs.{zeros}
+use Rattle.nodes.proofs.Signatures.{written_below}
+use Rattle.reachability.proofs.Meaning.{told}
+use Rattle.reachability.proofs.judge_small.Goals as goal
+
+pub search-requires : goal.search-requires
+search-requires c κs =
+    let p = c.requires in
+    let x = c.link_tree.ensures (not-false _ c.if-not-link_tree.false) in (
+      p.0,
+      omega (arith, p.1),
+      omega (arith, p.1, c.parents-2-1.given),
+      omega (arith, p.1, c.rights-2-1.given),
+      p.1,
+      p.1,
+      written_below _ _ x.0 p.2 x.1,
+      zeros 512,
+      zeros 512,
+    )
+
+pub returns : goal.returns
+returns c =
+    λ A k.
+    let start = c in
+    told A start.args.header start.args.table.now start.args.symbols.now _ _ start.requires.2 k (c.link_tree.ensures (not-false _ c.if-not-link_tree.false)) _
+    c.search.ensures c.verdict_of.result c.verdict_of.ensures

@@ -1,0 +1,21 @@
+-- `reachability::sweep` meets its contract. The invariant: the nodes passed have no fresh state.
+-- Assumes nothing.
+use borrow.Author.Rules.{rules}
+use Prim.Native.Nat.{ℕ, ◌-◌, ◌≤◌, ◌<◌}
+use native.Mathlib.Omega.{arith}
+use mathlib.Core.Path.{◌≡◌}
+use lib.ListN.{get_or}
+use Rattle.reachability.proofs.Ending.{none_more}
+use Rattle.reachability.proofs.sweep.Goals as goal
+
+pub loop-node-init : goal.loop-node-init
+loop-node-init c = (omega arith, λ i l. absurd (omega arith))
+
+pub returns-then-fresh-node-ne0 : goal.returns-then-fresh-node-ne0
+returns-then-fresh-node-ne0 c = record { within = omega arith; some = λ l. omega (arith, c.if-fresh-node-ne0.true); none = λ e i l. absurd (omega arith) }
+
+pub loop-node-preserved : goal.loop-node-preserved
+loop-node-preserved c = (omega arith, none_more c.args.fresh.now c.loop-node.node c.loop-node.invariant.1 (omega (arith, c.if-fresh-node-ne0.false)))
+
+pub returns : goal.returns
+returns c = record { within = omega arith; some = λ l. absurd (omega arith); none = λ e i l. c.loop-node.invariant.1 i (omega arith) }

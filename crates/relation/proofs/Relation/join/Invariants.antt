@@ -1,0 +1,17 @@
+-- `relation::Relation::join` meets its contract: the loop replaces each row by that of `joined`. Assumes nothing.
+use mathlib.Core.Path.{◌≡◌, refl, sym, ◌∙◌}
+use Prim.Native.Nat.{◌≤◌, ◌-◌}
+use native.Mathlib.Omega.{arith}
+use lib.ListN.{length}
+use borrow.Author.Rules.{rules}
+use Rattle.relation.specs.Rows.{joined}
+use Rattle.relation.proofs.Pairs.{length-joined}
+use Rattle.relation.proofs.Over.{over, over_done}
+use Rattle.relation.proofs.Turns.{join-turn}
+use Rattle.relation.proofs.Relation.join.Given as goal
+
+abbrev pub invariant-loop-p : goal.invariant-loop-p
+invariant-loop-p l = (l.p ≤ 24) × (l.self.rows ≡ over (joined l.initial.self.rows l.other.rows) l.initial.self.rows l.p)
+
+abbrev pub decreases-loop-p : goal.decreases-loop-p
+decreases-loop-p l = 24 - l.p

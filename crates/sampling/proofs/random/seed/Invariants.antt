@@ -1,0 +1,11 @@
+-- `crate::random::seed` ends, after twelve numbers.
+-- Assumes nothing.
+use borrow.Author.Rules.{rules}
+use Prim.Native.Nat.{◌-◌, ◌≤◌}
+use Rattle.sampling.proofs.random.seed.Given as goal
+
+abbrev pub invariant-loop : goal.invariant-loop
+invariant-loop l = l.counter ≤ 12
+
+abbrev pub decreases-loop : goal.decreases-loop
+decreases-loop l = 12 - l.counter

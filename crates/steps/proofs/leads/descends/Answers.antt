@@ -1,0 +1,22 @@
+-- `steps::leads::descends` meets its contract: a leaf has no parts.
+-- Assumes nothing.
+use native.Mathlib.Omega.{arith}
+use mathlib.Core.Path.{refl}
+use borrow.Author.Tests.{ne_eqb}
+use Rattle.steps.proofs.Leading.{no_part}
+use borrow.Author.Rules.{rules}
+use Rattle.steps.proofs.leads.descends.Goals as goal
+
+pub overflow_cast-right : goal.overflow_cast-right
+overflow_cast-right c = omega (arith, c.shared_slice_known-1.given c.args.node)
+
+pub returns-then-right-eq0 : goal.returns-then-right-eq0
+returns-then-right-eq0 c =
+    let a = c.args in
+    λ parents q. no_part parents a.rights.now a.node a.next a.side q c.if-right-eq0.true
+
+pub returns-in-Left : goal.returns-in-Left
+returns-in-Left c = λ parents q. rw (c.enum_told-1.given.1, ne_eqb _ 0 c.if-right-eq0.false) refl
+
+pub returns-in-Right : goal.returns-in-Right
+returns-in-Right c = λ parents q. rw (c.enum_told-in-Right-1.given.1, ne_eqb _ 0 c.if-right-eq0.false) refl

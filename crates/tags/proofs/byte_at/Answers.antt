@@ -1,0 +1,9 @@
+-- `tags::byte_at` meets its contract.
+-- Assumes nothing.
+use borrow.Author.Rules.{rules}
+use mathlib.Core.Path.{sym}
+use lib.ListN.{get_or-eq_default}
+use Rattle.tags.proofs.byte_at.Goals as goal
+
+pub returns-else-at-text : goal.returns-else-at-text
+returns-else-at-text c = let a = c.args in sym (get_or-eq_default a.text.now 0 c.if-at-text.false)

@@ -1,0 +1,9 @@
+-- `tags::no_branch` meets its contract.
+-- Assumes nothing.
+use borrow.Author.Rules.{rules}
+use mathlib.Core.Path.{ap}
+use mathlib.Core.Bool.{not}
+use Rattle.tags.proofs.no_branch.Goals as goal
+
+pub returns-in-Opens : goal.returns-in-Opens
+returns-in-Opens c = rw c.tag-1.given.1 (ap not c.is_branch.ensures)

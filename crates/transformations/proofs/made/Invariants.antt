@@ -1,0 +1,11 @@
+-- `transformations::made` ends, after 256 functions.
+-- Assumes nothing.
+use borrow.Author.Rules.{rules}
+use Prim.Native.Nat.{◌-◌, ◌≤◌}
+use Rattle.transformations.proofs.made.Given as goal
+
+abbrev pub invariant-loop-f : goal.invariant-loop-f
+invariant-loop-f l = l.f ≤ 256
+
+abbrev pub decreases-loop-f : goal.decreases-loop-f
+decreases-loop-f l = 256 - l.f

@@ -1,0 +1,13 @@
+-- `walks::with_copies` ends, after one turn for each copy.
+-- Assumes nothing.
+use borrow.Author.Rules.{rules}
+use Prim.Native.Nat.{◌-◌, ◌≤◌}
+use mathlib.Core.Path.{◌≡◌}
+use lib.ListN.{length}
+use Rattle.walks.proofs.with_copies.Given as goal
+
+abbrev pub invariant-loop : goal.invariant-loop
+invariant-loop l = (l.counter ≤ l.n) × (length l.records ≡ length l.initial.records)
+
+abbrev pub decreases-loop : goal.decreases-loop
+decreases-loop l = l.n - l.counter

@@ -1,0 +1,74 @@
+-- `watch::watch_check` meets its contract: the tests in turn.
+-- Assumes nothing.
+-- where it is told to be single
+use Prim.Native.Nat.{ℕ}
+use native.Mathlib.Omega.{arith}
+use mathlib.Core.Path.{◌≡◌, sym, ap, ◌∙◌}
+use mathlib.Core.Bool.{true}
+use mathlib.Core.List.{List}
+use lib.Count.{ones, ones-le}
+use mir.Syntax.{w32}
+use mir.Val.{Fits}
+use borrow.Author.Rules.{rules}
+use Rattle.algorithms.specs.Automaton.{Automaton}
+use Rattle.automaton.specs.declared.Header.{Header}
+use Rattle.overloops.specs.Ready.{Headed}
+use Rattle.determinism.specs.Determined.{determined}
+use Rattle.watch.proofs.Checking.{told-single, told-other, check-multiple, check-starts, check-budget, check-room, check-passes}
+use Rattle.watch.proofs.watch_check.Reads as reads
+use Rattle.determinism.proofs.single_prepared.Reads as single-prepared-reads
+use Rattle.refusal.proofs.refused.Reads as refused-reads
+use Rattle.watch.proofs.watch_check.Goals as goal
+
+module _ (c : tie.After-enum-told) where
+  abbrev header : Header
+  header = c.before.before.before.args.header
+
+  abbrev table : List ℕ
+  table = c.before.before.before.args.table.now
+
+  single-is : (A : Automaton) → Headed A header table → determined A ≡ true
+  single-is A k =
+      told-single (determined A) _ c.enum_told.given.1
+      (c.before.before.single-prepared.ensures A k.tabled.compiled k.symbols k.tabled.states)
+
+  starts-are : (A : Automaton) → Headed A header table → ones header.initial ≡ ones A.initial
+  starts-are A k = ap ones (sym k.initial)
+
+pub returns-in_default : goal.returns-in_default
+returns-in_default c =
+    λ A k.
+    c.refused.ensures
+    ∙ check-multiple (determined A) A _ _
+    (told-other (determined A) _ c.in_default.keys2
+    (c.single_prepared.ensures A k.tabled.compiled k.symbols k.tabled.states))
+
+pub overflow_cast-starts : goal.overflow_cast-starts
+overflow_cast-starts c =
+    let f : Fits w32 c.args.header.initial = search rules in
+    record { fits = omega (arith, ones-le 32 _ f.fits) }
+
+pub returns-then-starts-ne1 : goal.returns-then-starts-ne1
+returns-then-starts-ne1 c =
+    λ A k.
+    let told = c in
+    c.refused-then-starts-ne1.ensures ∙ check-starts (determined A) A _ _ (single-is told A k) _ (starts-are told A k) c.if-starts-ne1.true
+
+pub returns-then-budget-gt20000 : goal.returns-then-budget-gt20000
+returns-then-budget-gt20000 c =
+    λ A k.
+    let told = c in
+    c.refused-then-budget-gt20000.ensures ∙ check-budget (determined A) A _ _ (single-is told A k) _ (starts-are told A k) c.if-starts-ne1.false c.if-budget-gt20000.true
+
+pub returns-then-room-budget : goal.returns-then-room-budget
+returns-then-room-budget c =
+    λ A k.
+    let told = c in
+    c.refused-then-room-budget.ensures
+    ∙ check-room (determined A) A _ _ (single-is told A k) _ (starts-are told A k) c.if-starts-ne1.false c.if-budget-gt20000.false c.if-room-budget.true
+
+pub returns : goal.returns
+returns c =
+    λ A k.
+    let told = c in
+    check-passes (determined A) A _ _ (single-is told A k) _ (starts-are told A k) c.if-starts-ne1.false c.if-budget-gt20000.false c.if-room-budget.false

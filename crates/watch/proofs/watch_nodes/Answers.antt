@@ -1,0 +1,43 @@
+-- `watch::watch_nodes` meets its contract: a check's refusal is told, and any other run is followed.
+-- Assumes nothing.
+-- no check applies
+use mathlib.Core.Path.{◌≡◌, sym, ap, ◌∙◌}
+use lib.Count.{ones}
+use lib.ListN.{length}
+use borrow.Author.Rules.{rules}
+use Rattle.refusal.specs.declared.Check.TheVariants.{Passed}
+use Rattle.determinism.specs.Determined.{determined}
+use Rattle.watch.specs.Checks.{watch_check}
+use Rattle.watch.specs.Following.{Held}
+use Rattle.watch.proofs.Checking.{checks-passed}
+use Rattle.watch.proofs.Telling.{tree-refused, tree-walked}
+use Rattle.watch.proofs.watch_nodes.Reads as reads
+use Rattle.watch.proofs.walk_nodes.Reads as walk-nodes-reads
+use Rattle.watch.proofs.watch_check.Reads as watch-check-reads
+use Rattle.watch.proofs.watch_nodes.Goals as goal
+
+module _ (c : tie.After-enum-told) where
+  passed : (held : Held c.before.before.before.before.before.args.header c.before.before.before.before.before.args.table.now c.before.before.before.before.before.args.nodes.now)
+      → watch_check (determined held.automaton) held.automaton c.before.before.before.before.before.args.budget (length c.before.before.before.before.before.args.log.now) ≡ Passed
+  passed held = sym (c.before.before.watch-check.ensures _ held.headed) ∙ c.enum_told.given.1
+
+pub watch_check-requires : goal.watch_check-requires
+watch_check-requires c κs = c.requires.limits
+
+pub returns-in-Refused : goal.returns-in-Refused
+returns-in-Refused c =
+    λ held.
+    tree-refused (determined held.automaton) held.automaton held.tree _ _ _
+    (sym (c.watch_check.ensures _ held.headed) ∙ c.refusal-1.given.1)
+
+pub walk_nodes-requires : goal.walk_nodes-requires
+walk_nodes-requires c κs =
+    let held = c.requires in
+    let free = checks-passed _ _ _ _ (passed c held) in
+    (held, ap ones (sym held.headed.initial) ∙ free.one-start, free.low, free.enough)
+
+pub returns : goal.returns
+returns c =
+    λ held.
+    tree-walked (determined held.automaton) held.automaton held.tree _ _ (passed c held) _ held.headed.initial _ _
+    (c.walk_nodes.ensures held)

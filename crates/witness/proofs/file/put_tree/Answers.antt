@@ -1,0 +1,28 @@
+-- `witness::file::put_tree` meets its contract.
+-- Assumes nothing.
+-- what was written is the node list
+use Rattle.witness.specs.Plan.{plan_tree}
+use Rattle.block_writer.proofs.Front.{front}
+use Rattle.tree.specs.Payload.{tree_file}
+use Rattle.witness.proofs.Space.{file-long}
+use Rattle.nodes.proofs.Standing.{size-preorder}
+use Rattle.nodes.specs.Preorder.{preorder}
+use lib.ListN.{take}
+use mathlib.Core.Path.{◌≡◌, sym, ◌∙◌}
+use borrow.Author.Rules.{rules}
+use Rattle.witness.proofs.file.put_tree.Goals as goal
+
+nodes_are : (c : tie.After-write-nodes) → take c.write-nodes.result c.write-nodes.new.1.0 ≡ preorder (plan_tree c.before.before.before.before.args.plan.now)
+nodes_are c = front _ _ _ _ (c.write-nodes.ensures.0 ∙ sym (size-preorder _)) c.write-nodes.ensures.1
+
+pub slice_bounds-write_tree-end : goal.slice_bounds-write_tree-end
+slice_bounds-write_tree-end c = rw (nodes_are c) (c.write_nodes-k.ensures.0 ∙ sym (size-preorder _))
+
+pub write_tree-requires : goal.write_tree-requires
+write_tree-requires c κs =
+    let q = c in
+    rw (nodes_are c, size-preorder (plan_tree q.args.plan.now)) (q.requires.1, rw (file-long q.args.plan.now) at q.requires.2)
+
+pub returns : goal.returns
+unfolding tree_file
+returns c = rw (nodes_are c) at c.write_tree.ensures

@@ -1,0 +1,16 @@
+-- `witness::plan::first_wrong` meets its contract.
+-- Assumes nothing.
+use borrow.Author.Rules.{rules}
+use Prim.Native.Nat.{◌-◌, ◌≤◌}
+use mathlib.Core.Path.{◌≡◌, sym, ◌∙◌}
+use native.Mathlib.Nat.{sub-zero}
+use Rattle.blocks.specs.Search.{lowest, lowest_from}
+use Rattle.blocks.proofs.Laws.{lowest-passed, lowest-hit, lowest-none}
+use Rattle.witness.specs.Plan.{row_wrong}
+use Rattle.witness.proofs.plan.first_wrong.Given as goal
+
+abbrev pub invariant-loop-i : goal.invariant-loop-i
+invariant-loop-i l = (l.i ≤ l.rows) × (lowest (row_wrong l.signature l.plan) l.rows ≡ lowest_from (row_wrong l.signature l.plan) l.i (l.rows - l.i))
+
+abbrev pub decreases-loop-i : goal.decreases-loop-i
+decreases-loop-i l = l.rows - l.i

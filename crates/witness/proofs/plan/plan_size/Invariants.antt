@@ -1,0 +1,16 @@
+-- `witness::plan::plan_size` meets its contract.
+-- Assumes nothing.
+use Rattle.witness.proofs.Writing.{sized-more}
+use Rattle.witness.specs.Sound.{Sized}
+use lib.ListN.{length, length-set}
+use mathlib.Core.Path.{◌≡◌}
+use native.Mathlib.Omega.{arith}
+use Prim.Native.Nat.{◌-◌, ◌≤◌}
+use borrow.Author.Rules.{rules}
+use Rattle.witness.proofs.plan.plan_size.Given as goal
+
+abbrev pub invariant-loop-i : goal.invariant-loop-i
+invariant-loop-i l = (l.i ≤ l.rows) × (length l.sizes ≡ 65) × Sized l.plan l.sizes l.i
+
+abbrev pub decreases-loop-i : goal.decreases-loop-i
+decreases-loop-i l = l.rows - l.i
