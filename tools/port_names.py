@@ -2,7 +2,7 @@
 """Brings the words of this repository to snake case: definitions, lemmas, fields, constructors and variables of .antt files, and where clauses,
 must-fail edits and pages speak of them. Types and modules keep their camel case, functions of src/ and strings their names.
 
-usage: tools/port_names.py [--look]     at the top, once, after port.py; --look only tells which names would fall together
+usage: tools/port_names.py [--look]     at the top, once and no more, after port.py; --look only tells which names would fall together
 """
 import collections
 import os

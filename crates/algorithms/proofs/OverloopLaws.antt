@@ -10,7 +10,7 @@ use native.Mathlib.Omega.{arith}
 use lib.ListN.{length, get_or}
 use lib.Dec.{T}
 use Rattle.relation.proofs.BitLaws.{bit-zero}
-use Rattle.relation.specs.Rows.{has, no-pairs, joined, composed, closed}
+use Rattle.relation.specs.Rows.{has, no_pairs, joined, composed, closed}
 use Rattle.relation.specs.Growth.{growth_of}
 use Rattle.relation.proofs.Pairs.{has-none, has-joined, has-composed, meeting-has}
 use Rattle.relation.specs.Chain.{Within, Chain as Pairs, stop, step}
@@ -174,26 +174,26 @@ module _ (A : Automaton) (P : Proper A) where
       within-node_loops = within-closed n simples P.few within-simples
 
   -- A leaf is a node whose parts have no overloops: one function forms the loops of both.
-  leaf-given : (τ : Place) (σ : ℕ) → leaf_simple A τ σ ≡ node_simple A τ σ no-pairs no-pairs
+  leaf-given : (τ : Place) (σ : ℕ) → leaf_simple A τ σ ≡ node_simple A τ σ no_pairs no_pairs
   unfolding simples
   leaf-given τ σ =
       let w = within_none n in
-      same-pairs (moves A σ τ Stay) (simples τ σ no-pairs no-pairs w w) (within-moves σ τ Stay) (within-simples τ σ no-pairs no-pairs w w)
+      same-pairs (moves A σ τ Stay) (simples τ σ no_pairs no_pairs w w) (within-moves σ τ Stay) (within-simples τ σ no_pairs no_pairs w w)
       (λ p q. (
-        λ h. (has-simples τ σ no-pairs no-pairs w w p q).1 (loop_here ((has-moves σ τ Stay p q).0 h)),
-        λ h. only_here p q ((has-simples τ σ no-pairs no-pairs w w p q).0 h),
+        λ h. (has-simples τ σ no_pairs no_pairs w w p q).1 (loop_here ((has-moves σ τ Stay p q).0 h)),
+        λ h. only_here p q ((has-simples τ σ no_pairs no_pairs w w p q).0 h),
       ))
     where
-      only_here : (p q : ℕ) → Simple (Δ A) τ σ (sides (has no-pairs) (has no-pairs)) p q → has (moves A σ τ Stay) p q
+      only_here : (p q : ℕ) → Simple (Δ A) τ σ (sides (has no_pairs) (has no_pairs)) p q → has (moves A σ τ Stay) p q
       only_here p q (loop_here d) = (has-moves σ τ Stay p q).1 d
       only_here p q (loop_down {m = m} Left d x) = absurd (has-none m q x)
       only_here p q (loop_down {m = m} Right d x) = absurd (has-none m q x)
 
-  pub leaf-as-node : (τ : Place) (σ : ℕ) → leaf_loops A τ σ ≡ node_loops A τ σ no-pairs no-pairs
+  pub leaf-as-node : (τ : Place) (σ : ℕ) → leaf_loops A τ σ ≡ node_loops A τ σ no_pairs no_pairs
   unfolding leaf_loops node_loops
   leaf-as-node τ σ = ap (closed n) (leaf-given τ σ)
 
-  pub leaf-grows-as-node : (τ : Place) (σ : ℕ) → leaf_growth A τ σ ≡ node_growth A τ σ no-pairs no-pairs
+  pub leaf-grows-as-node : (τ : Place) (σ : ℕ) → leaf_growth A τ σ ≡ node_growth A τ σ no_pairs no_pairs
   unfolding leaf_growth node_growth
   leaf-grows-as-node τ σ = ap (growth_of n) (leaf-given τ σ)
 

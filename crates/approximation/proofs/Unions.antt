@@ -11,7 +11,7 @@ use lib.Dec.{eqb}
 use lib.ListN.{length, length-map}
 use Rattle.relation.specs.Bit.{bit}
 use Rattle.relation.proofs.BitLaws.{bit-off}
-use Rattle.relation.specs.Rows.{no-pairs, joined, image_of}
+use Rattle.relation.specs.Rows.{no_pairs, joined, image_of}
 use Rattle.relation.proofs.Pairs.{ext, has-none, has-joined, length-joined}
 use Rattle.relation.proofs.ChainLaws.{length-closed}
 use Rattle.relation.proofs.Algebra.{joined-comm, joined-assoc}
@@ -40,10 +40,10 @@ Full x = length x ≡ 24
 full-joined : (x y : List ℕ) → Full x → Full y → Full (joined x y)
 full-joined x y u v = length-joined x y (u ∙ sym v) ∙ u
 
-joined-none : (x : List ℕ) → Full x → joined x no-pairs ≡ x
+joined-none : (x : List ℕ) → Full x → joined x no_pairs ≡ x
 joined-none x u =
-    ext (joined x no-pairs) x (length-joined x no-pairs u)
-    (λ p q. (λ h. ⊎_elim (λ a. a) (λ n. absurd (has-none p q n)) ((has-joined x no-pairs p q).0 h), λ h. (has-joined x no-pairs p q).1 (inl h)))
+    ext (joined x no_pairs) x (length-joined x no_pairs u)
+    (λ p q. (λ h. ⊎_elim (λ a. a) (λ n. absurd (has-none p q n)) ((has-joined x no_pairs p q).0 h), λ h. (has-joined x no_pairs p q).1 (inl h)))
 
 module _ (A : Automaton) (τ : Place) (σ : ℕ) where
   full-leaf_loops : Full (leaf_loops A τ σ)
@@ -100,7 +100,7 @@ module _ (f : ℕ → List ℕ) (full : (σ : ℕ) → Full (f σ)) where
 
   union-snoc : (σs : List ℕ) (k : ℕ) → union f (σs ++ k ∷ []) ≡ joined (union f σs) (f k)
   unfolding union
-  union-snoc [] k = joined-comm (f k) no-pairs (full k)
+  union-snoc [] k = joined-comm (f k) no_pairs (full k)
   union-snoc (σ ∷ σs) k =
       ap (joined (f σ)) (union-snoc σs k)
       ∙ sym (joined-assoc (f σ) (union f σs) (f k) (full σ ∙ sym (full-union σs)) (full-union σs ∙ sym (full k)))
@@ -151,7 +151,7 @@ abbrev pub join_parts_if : Bool → (x y : Parts) → Parts
 join_parts_if t x y = parts (join_if t x.left y.left) (join_if t x.right y.right)
 
 abbrev pub nothing : Parts
-nothing = parts no-pairs no-pairs
+nothing = parts no_pairs no_pairs
 
 pub full-nothing : FullParts nothing
 full-nothing = record { left = refl; right = refl }
@@ -197,13 +197,13 @@ module _ (A : Automaton) (h : Header) (t : List ℕ) (k : Headed A h t) where
   unfolding leaf_side
   leaves-gathered = ap₂ parts (all Left) (all Right)
     where
-      all : (s : Side) → joined no-pairs (union (leaf_overloops A (Place.Child s)) (numbered 0 h.branches 0 h.symbols))
+      all : (s : Side) → joined no_pairs (union (leaf_overloops A (Place.Child s)) (numbered 0 h.branches 0 h.symbols))
           ≡ union (leaf_overloops A (Place.Child s)) (alphabet_of A).leaves
       all s =
           let f = leaf_overloops A (Place.Child s) in
           let σs = numbered 0 h.branches 0 h.symbols in
           let full = full-union f (full-leaf_overloops A (Place.Child s)) σs in
-          joined-comm no-pairs (union f σs) (sym full) ∙ joined-none (union f σs) full ∙ ap (λ (S : Alphabet). union f S.leaves) (sym symbols-are)
+          joined-comm no_pairs (union f σs) (sym full) ∙ joined-none (union f σs) full ∙ ap (λ (S : Alphabet). union f S.leaves) (sym symbols-are)
 
   pub branches-gathered : (x : Parts) → gathered x (λ σ. (algebra_of A).node_class σ x x) (numbered 1 h.branches 0 h.symbols) ≡ formed A x
   unfolding formed formed_side

@@ -8,7 +8,7 @@ use mathlib.Core.Bool.{true, false}
 use mathlib.Core.List.{List, [], ◌∷◌}
 use lib.ListN.{length, get_or, set}
 use lib.Seq.{get_or-set_same, get_or-set_other, set_out}
-use Rattle.relation.specs.Rows.{no-pairs}
+use Rattle.relation.specs.Rows.{no_pairs}
 use Rattle.relation.specs.Sets.{member}
 use Rattle.model.specs.Trees.{Tree, leaf, node}
 use Rattle.model.specs.declared.Side.{Side}
@@ -75,7 +75,7 @@ pub as_before : (A : Automaton) (counts store maps cells : List ℕ) → CachedI
 as_before A counts store maps cells k = record { cached = k; same = λ i s l. refl; more = omega arith }
 
 -- the word of a node over two blank parts is that of a leaf
-leaf-tells : (A : Automaton) (store : List ℕ) (σ w : ℕ) → Proper A → ((s : Side) → rows_of store 0 s ≡ no-pairs) → Node A store σ 0 0 w
+leaf-tells : (A : Automaton) (store : List ℕ) (σ w : ℕ) → Proper A → ((s : Side) → rows_of store 0 s ≡ no_pairs) → Node A store σ 0 0 w
     → TellsWord A store w (leaf σ)
 unfolding overloops own_growth
 leaf-tells A store σ w proper blank n = (

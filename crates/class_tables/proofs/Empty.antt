@@ -3,7 +3,7 @@
 use Rattle.std.proofs.Common.{◌≡◌, ℕ, zero, suc, ◌+◌, ◌<◌, List, length, get_or, replicate, sym, refl, ◌∙◌, arith}
 use native.Mathlib.Decide.{dec_lt}
 use lib.ListN.{get_or-eq_default}
-use Rattle.relation.specs.Rows.{no-pairs}
+use Rattle.relation.specs.Rows.{no_pairs}
 use Rattle.model.specs.declared.Side.{Side}
 use Rattle.algorithms.specs.Automaton.{Automaton}
 use Rattle.overloops.proofs.Laws.{side-small, part-is}
@@ -24,14 +24,14 @@ all-zero l h i = by (dec_lt i (length l))
     by (no n) = get_or-eq_default l 0 {n = i} (omega arith)
 
 -- the relations of a class in a store of zeros
-pub no-pairs : (store : List ℕ) → length store ≡ 49152 → ((i : ℕ) → get_or store i 0 ≡ 0) → (s : Side) → rows_of store 0 s ≡ no-pairs
+pub no-pairs : (store : List ℕ) → length store ≡ 49152 → ((i : ℕ) → get_or store i 0 ≡ 0) → (s : Side) → rows_of store 0 s ≡ no_pairs
 unfolding rows_of
 no-pairs store e z s =
     let small = side-small s in
-    part-is store (rows_place 0 s) (omega arith) no-pairs refl (λ p h. z (rows_place 0 s + p) ∙ sym (zeros 24 p))
+    part-is store (rows_place 0 s) (omega arith) no_pairs refl (λ p h. z (rows_place 0 s + p) ∙ sym (zeros 24 p))
 
 pub empty : (A : Automaton) (counts store maps cells : List ℕ) → length counts ≡ 6 → length store ≡ 49152 → length maps ≡ 66560 → length cells ≡ 16384
-    → classes counts ≡ 1 → ((s : Side) → indices counts s ≡ 1) → ((s : Side) → rows_of store 0 s ≡ no-pairs) → ((i : ℕ) → get_or maps i 0 ≡ 0)
+    → classes counts ≡ 1 → ((s : Side) → indices counts s ≡ 1) → ((s : Side) → rows_of store 0 s ≡ no_pairs) → ((i : ℕ) → get_or maps i 0 ≡ 0)
     → ((i : ℕ) → get_or cells i 0 ≡ 0) → CachedIn A counts store maps cells
 empty A counts store maps cells lu ls lm lc one ones blank zm zc = record {
   counts_size = lu;

@@ -3,7 +3,7 @@
 -- of the indices of a node's two parts, over a word, which names the node's class and has its growths. Where a key stands among the cells does not matter.
 -- Interface: `index_at`, `key`, `word_under`, `Right`, `classes`, `indices`, `CachedIn`, `After`, `Kept`.
 use Rattle.std.specs.Prelude.{◌≡◌, ℕ, ◌+◌, ◌*◌, ◌/◌, ◌%◌, ◌<◌, ◌≤◌, cond, List, length, ◌==◌, slice_index}
-use Rattle.relation.specs.Rows.{no-pairs}
+use Rattle.relation.specs.Rows.{no_pairs}
 use Rattle.model.specs.declared.Side.{Side}
 use Rattle.algorithms.specs.Automaton.{Automaton}
 use Rattle.overloops.specs.Tables.{side_number}
@@ -50,7 +50,7 @@ pub record CachedIn (A : Automaton) (counts store maps cells : List ℕ) : Type 
   pub some : 0 < classes counts
   pub few : classes counts ≤ 1024
   -- class 0 is that of the parts of a leaf
-  pub blank : (s : Side) → rows_of store 0 s ≡ no-pairs
+  pub blank : (s : Side) → rows_of store 0 s ≡ no_pairs
   -- indices are in use; classes to come have none
   pub some_indices : (s : Side) → 0 < indices counts s
   pub few_indices : (s : Side) → indices counts s ≤ 65536

@@ -16,7 +16,7 @@ use Rattle.tags.specs.declared.Tag.{Tag}
 use Rattle.tags.specs.declared.Tag.TheVariants.{Opens as opens, Closes as closes}
 use Rattle.tags.proofs.ClassLaws.{digit-class, space-less}
 use Rattle.tags.proofs.Listed.{opens-short, opens-two, closes-is}
-use Rattle.markup.specs.Checks.{grow, runs-of, elements_of}
+use Rattle.markup.specs.Checks.{grow, runs_of, elements_of}
 
 -- ---- the tags of a run's text
 
@@ -87,18 +87,18 @@ text-tags {s} {r} w = rw (append-nil s, append-nil (tags_of r)) at (run-tags [] 
 
 -- ---- the elements, found from the tags
 
-runs-of : (r : Elements) (us : List Tag) (rs : List Elements) → runs-of us ≡ empty ∷ rs → runs-of (tags_of r ++ us) ≡ r ∷ rs
-unfolding runs-of tags_of
+runs-of : (r : Elements) (us : List Tag) (rs : List Elements) → runs_of us ≡ empty ∷ rs → runs_of (tags_of r ++ us) ≡ r ∷ rs
+unfolding runs_of tags_of
 runs-of empty us rs e = e
 runs-of (element n i a) us rs e =
-    let h : runs-of ((tags_of i ++ (closes ∷ tags_of a)) ++ us) ≡ i ∷ a ∷ rs =
+    let h : runs_of ((tags_of i ++ (closes ∷ tags_of a)) ++ us) ≡ i ∷ a ∷ rs =
     rw append_assoc (runs-of i (closes ∷ (tags_of a ++ us)) (a ∷ rs) (ap (λ (l : List Elements). empty ∷ l) (runs-of a us rs e))) in
     ap (grow n) h
 
 pub text-elements : {s : List ℕ} {r : Elements} → Writes s r → elements_of s ≡ r
-unfolding elements_of runs-of
+unfolding elements_of runs_of
 text-elements {s} {r} w =
-    let a : runs-of (tags_of r) ≡ r ∷ [] = rw (append-nil (tags_of r)) at (runs-of r [] [] refl) in
+    let a : runs_of (tags_of r) ≡ r ∷ [] = rw (append-nil (tags_of r)) at (runs-of r [] [] refl) in
     rw (text-tags w, a)
 
 -- a text has one list of elements

@@ -24,10 +24,10 @@ grow n (inside ∷ []) = []
 grow n (inside ∷ after ∷ rs) = element n inside after ∷ rs
 
 -- the runs that tags write one after another, found from their end; a closing tag ends a run, and so does the end
-unfoldable pub runs-of : List Tag → List Elements
-runs-of [] = empty ∷ []
-runs-of (closes ∷ ts) = empty ∷ runs-of ts
-runs-of (opens n ∷ ts) = grow n (runs-of ts)
+unfoldable pub runs_of : List Tag → List Elements
+runs_of [] = empty ∷ []
+runs_of (closes ∷ ts) = empty ∷ runs_of ts
+runs_of (opens n ∷ ts) = grow n (runs_of ts)
 
 abbrev pub first_run : List Elements → Elements
 first_run [] = empty
@@ -35,7 +35,7 @@ first_run (r ∷ rs) = r
 
 -- the elements that a text writes, where it follows the grammar
 unfoldable pub elements_of : List ℕ → Elements
-elements_of s = first_run (runs-of (tags_in s))
+elements_of s = first_run (runs_of (tags_in s))
 
 abbrev pub text_tree : List ℕ → Tree
 text_tree s = tree_of (elements_of s)

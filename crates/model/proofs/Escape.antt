@@ -1,5 +1,6 @@
 -- The escaped automaton (the paper's Definition 13), and acceptance by an overloop of it (Corollary 14).
 use mathlib.Core.Logic.{◌↔◌}
+use mathlib.Core.Path.{◌≡◌, refl}
 use Prim.Native.Nat.{ℕ}
 use Rattle.model.specs.Places.{Side, Place, Root, Child, Move, Stay, Up, Down}
 use Rattle.model.specs.Trees.{Tree}
@@ -28,9 +29,12 @@ module _ (Δ : Transitions) (F : ℕ → Type 0) (over : ℕ) where
   step-old (descends a d) = descends a (old-down d)
 
   module _ (fresh : (σ p : ℕ) → Δ σ p Root Up over → ⊥) where
+    final_at : {σ p q : ℕ} → q ≡ over → Escaped Δ F over σ p Root Up q → F p
+    final_at e (old d) = absurd (fresh _ _ (rw e at d))
+    final_at e (escape f) = f
+
     final : {σ p : ℕ} → Escaped Δ F over σ p Root Up over → F p
-    final (old d) = absurd (fresh _ _ d)
-    final (escape f) = f
+    final d = final_at refl d
 
     -- Corollary 14, where no transition of Δ goes up from the root into `over`.
     pub accepts-escaped : {I : ℕ → Type 0} {t : Tree} →

@@ -4,7 +4,7 @@ use mathlib.Core.Path.{◌≡◌, refl}
 use Prim.Native.Nat.{ℕ}
 use Rattle.model.specs.Places.{Left, Place, Root, Child, Move, Stay, Up, Down}
 use Rattle.model.specs.Trees.{leaf, node}
-use Rattle.model.specs.Runs.{top, at_left, Chain, done, ◌then◌, stays, climbs, descends, Accepts, PartOverloop, Here, Simple, loop_down}
+use Rattle.model.specs.Runs.{top, at_left, Chain, done, ◌then◌, stays, climbs, descends, Accepts, PartOverloop, Here, Simple, loop_here, loop_down}
 use Rattle.model.specs.Runs.{Deterministic}
 use Rattle.model.proofs.Loops.{loop-leaf, loop-node}
 
@@ -31,6 +31,7 @@ no-overloop (d then c) u = no-transition d
     no-transition = elim [ ]
 
 no_loop : {q : ℕ} → Simple 𝒳 Root 3 (PartOverloop 𝒳 (leaf 1) (leaf 0)) 0 q → ⊥
+no_loop (loop_here x) = elim x [ ]
 no_loop (loop_down s seek (m, c, u)) = no-overloop ((loop-leaf 𝒳).0 c) u
 
 no-chain : Chain (Simple 𝒳 Root 3 (PartOverloop 𝒳 (leaf 1) (leaf 0))) 0 1 → ⊥

@@ -59,6 +59,7 @@ module _ {A : Type 0} where
 
   -- The list without the element at that place.
   without : {a : A} (l : List A) → a ∈ l → List A
+  without [] m = elim m [ ]
   without (x ∷ l) (Memᴰ.head e) = l
   without (x ∷ l) (Memᴰ.tail m) = x ∷ without l m
 
@@ -84,6 +85,7 @@ module _ {A : Type 0} where
 
   pub nth-snoc : {l : List A} {i : ℕ} {a b : A} → Nth (l ++ b ∷ []) i a → Nth l i a ⊎ ((i ≡ length l) × (b ≡ a))
   nth-snoc {l = []} (here e) = inr (refl, e)
+  nth-snoc {l = []} (there h) = elim h [ ]
   nth-snoc {l = x ∷ l} (here e) = inl (here e)
   nth-snoc {l = x ∷ l} (there h) = step (nth-snoc {l = l} h)
     where
@@ -97,10 +99,11 @@ module _ {A B : Type 0} where
   nth-map f (there h) = there (nth-map f h)
 
   pub nth-of-map : (l : List A) {i : ℕ} {b : B} (f : A → B) → Nth (map f l) i b → (a : A) × Nth l i a × (f a ≡ b)
+  nth-of-map [] f h = elim h [ ]
   nth-of-map (x ∷ l) f (here e) = (x, here refl, e)
   nth-of-map (x ∷ l) f (there h) = let r = nth-of-map l f h in (r.0, there r.1, r.2)
 
-  pub mem-flat_map : {l : List A} {a : A} {b : B} (f : A → List B) → a ∈ l → b ∈ f a → b ∈ flat_map f l
+  pub mem-flat_map : {a : A} {l : List A} {b : B} (f : A → List B) → a ∈ l → b ∈ f a → b ∈ flat_map f l
   unfolding flat_map
   mem-flat_map f (Memᴰ.head e) k = Memᴰ.append_left _ (rw e at k)
   mem-flat_map {l = x ∷ l} f (Memᴰ.tail m) k = Memᴰ.append_right (f x) (mem-flat_map f m k)

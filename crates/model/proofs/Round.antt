@@ -123,6 +123,7 @@ module _ (M : Algebra) where
 
     pub absorb-covers : (c : Candidate M) (cs kept : List (Candidate M)) → c ∈ cs → c.class ∈ classes (absorb M kept cs)
     unfolding absorb keep_if_new
+    absorb-covers c [] kept m = elim m [ ]
     absorb-covers c (d ∷ cs) kept (Memᴰ.head e) = absorb-mem c.class cs _ (step (known M d.class kept) refl)
       where
         step : (b : Bool) → known M d.class kept ≡ b → c.class ∈ classes (keep_if_new M b kept d)

@@ -36,7 +36,7 @@ module _ (M : Algebra) where
   pub absorb-at : (kept cs : List (Candidate M)) {i : ℕ} {r : Candidate M} → Nth kept i r → Nth (absorb M kept cs) i r
   unfolding absorb keep_if_new
   absorb-at kept [] a = a
-  absorb-at kept (c ∷ cs) {i} {r} a = absorb-at _ cs (step (known M c.class kept))
+  absorb-at kept (c ∷ cs) {i} {r} a = absorb-at (keep_if_new M (known M c.class kept) kept c) cs (step (known M c.class kept))
     where
       step : (b : Bool) → Nth (keep_if_new M b kept c) i r
       step true = a

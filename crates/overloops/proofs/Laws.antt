@@ -12,7 +12,7 @@ use lib.Seq.{length-take-le, get_or-take, get_or-drop, get_or-set_same, get_or-s
 use Rattle.model.specs.declared.Side.{Side}
 use Rattle.model.specs.declared.Place.{Place}
 use Rattle.model.specs.declared.Move.{Move}
-use Rattle.relation.specs.Rows.{no-pairs, joined, composed, closed, meeting}
+use Rattle.relation.specs.Rows.{no_pairs, joined, composed, closed, meeting}
 use Rattle.algorithms.specs.Automaton.{Automaton, Proper, ranked, alphabet_of}
 use Rattle.relation.specs.Growth.{growth_of}
 use Rattle.algorithms.specs.Growth.{leaf_growth, node_growth}
@@ -74,12 +74,12 @@ module _ (A : Automaton) (τ : Place) (σ : ℕ) (L R : List ℕ) where
   overloops-formed l u x = rw (x, l, u)
 
 -- a leaf is a node whose parts have no overloops
-pub leaf-formed : (A : Automaton) → Proper A → (τ : Place) (σ : ℕ) {L R rows : List ℕ} → L ≡ no-pairs → R ≡ no-pairs → rows ≡ node_overloops A τ σ L R
+pub leaf-formed : (A : Automaton) → Proper A → (τ : Place) (σ : ℕ) {L R rows : List ℕ} → L ≡ no_pairs → R ≡ no_pairs → rows ≡ node_overloops A τ σ L R
     → rows ≡ leaf_overloops A τ σ
 unfolding node_overloops leaf_overloops
 leaf-formed A P τ σ l r e = rw (e, l, r, leaf-as-node A P τ σ)
 
-pub leaf-grown : (A : Automaton) → Proper A → (τ : Place) (σ : ℕ) {L R : List ℕ} {growth : ℕ} → L ≡ no-pairs → R ≡ no-pairs → growth ≡ node_growth A τ σ L R
+pub leaf-grown : (A : Automaton) → Proper A → (τ : Place) (σ : ℕ) {L R : List ℕ} {growth : ℕ} → L ≡ no_pairs → R ≡ no_pairs → growth ≡ node_growth A τ σ L R
     → growth ≡ leaf_growth A τ σ
 leaf-grown A P τ σ l r e = rw (e, l, r, leaf-grows-as-node A P τ σ)
 

@@ -6,7 +6,7 @@ use mathlib.Core.List.{List}
 use Prim.Native.Nat.{ℕ, ◌^◌, ◌≤◌, ◌<◌}
 use lib.ListN.{length, get_or, length-map}
 use Rattle.relation.proofs.BitLaws.{lt-of-bits}
-use Rattle.relation.specs.Rows.{has, no-pairs, joined, image_of, composed, closed}
+use Rattle.relation.specs.Rows.{has, no_pairs, joined, image_of, composed, closed}
 use Rattle.relation.proofs.Pairs.{ext, has-none, has-joined, has-composed, length-joined}
 use Rattle.relation.specs.Chain.{Chain, stop, step, Within}
 use Rattle.relation.proofs.ChainLaws.{chain-trans, has-closed, within-closed}
@@ -17,7 +17,7 @@ use Rattle.relation.proofs.ChainLaws.{chain-trans, has-closed, within-closed}
 pub row_lt : (n : ℕ) (R : List ℕ) → Within n R → (p : ℕ) → get_or R p 0 < 2 ^ n
 row_lt n R w p = lt-of-bits (get_or R p 0) n (λ q h. (w.inside p q h).1)
 
-pub within_none : (n : ℕ) → Within n no-pairs
+pub within_none : (n : ℕ) → Within n no_pairs
 within_none n = record { rows = refl; inside = λ p q h. absurd (has-none p q h) }
 
 pub within-joined : (n : ℕ) (A B : List ℕ) → Within n A → Within n B → Within n (joined A B)

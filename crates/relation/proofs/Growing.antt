@@ -12,7 +12,7 @@ use lib.Dec.{T, eqb, eqb→eq}
 use lib.ListN.{length, get_or, set}
 use Rattle.relation.specs.Bit.{bit}
 use Rattle.relation.proofs.BitLaws.{bit-lt, bit-low, bit-half}
-use Rattle.relation.specs.Rows.{has, no-pairs, joined, closed, bits_of, count_of}
+use Rattle.relation.specs.Rows.{has, no_pairs, joined, closed, bits_of, count_of}
 use Rattle.relation.specs.Chain.{Chain, Within, stop, step}
 use Rattle.relation.specs.Growth.{without, growth_of}
 use Rattle.relation.proofs.Over.{over, over-turn}
@@ -134,23 +134,23 @@ module _ (n : ℕ) (R : List ℕ) (few : n ≤ 24) (w : Within n R) where
 -- An empty relation grows by n, the pairs (p, p): computed, for each n below k.
 unfoldable alone : ℕ → Bool
 alone zero = true
-alone (suc k) = eqb (growth_of k no-pairs) k && alone k
+alone (suc k) = eqb (growth_of k no_pairs) k && alone k
 
 both : (a b : Bool) → T (a && b) → T a × T b
 both true b t = (tt, t)
 both false b t = absurd t
 
-of-alone : (k n : ℕ) → n < k → T (alone k) → growth_of n no-pairs ≡ n
+of-alone : (k n : ℕ) → n < k → T (alone k) → growth_of n no_pairs ≡ n
 unfolding alone
 of-alone zero n l t = absurd (omega arith)
 of-alone (suc k) n l t =
-    let parts = both (eqb (growth_of k no-pairs) k) (alone k) t in
-    last (of-alone k n) parts.1 (eqb→eq (growth_of k no-pairs) k parts.0) (ℕ_discrete n k)
+    let parts = both (eqb (growth_of k no_pairs) k) (alone k) t in
+    last (of-alone k n) parts.1 (eqb→eq (growth_of k no_pairs) k parts.0) (ℕ_discrete n k)
   where
-    last : (n < k → T (alone k) → growth_of n no-pairs ≡ n) → T (alone k) → growth_of k no-pairs ≡ k → Dec (n ≡ k) → growth_of n no-pairs ≡ n
-    last before t here (yes e) = subst (λ (i : ℕ). growth_of i no-pairs ≡ i) (sym e) here
+    last : (n < k → T (alone k) → growth_of n no_pairs ≡ n) → T (alone k) → growth_of k no_pairs ≡ k → Dec (n ≡ k) → growth_of n no_pairs ≡ n
+    last before t here (yes e) = subst (λ (i : ℕ). growth_of i no_pairs ≡ i) (sym e) here
     last before t here (no f) = before (omega arith) t
 
-pub growth-empty : (n : ℕ) → n ≤ 24 → growth_of n no-pairs ≡ n
+pub growth-empty : (n : ℕ) → n ≤ 24 → growth_of n no_pairs ≡ n
 unfolding alone growth_of
 growth-empty n l = of-alone 25 n (omega arith) tt

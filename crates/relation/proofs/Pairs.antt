@@ -14,7 +14,7 @@ use lib.ListN.{length, get_or, replicate, get_or-map}
 use lib.Seq.{ext_get_or, get_or-set_same, get_or-set_other}
 use Rattle.relation.specs.Bit.{bit}
 use Rattle.relation.proofs.BitLaws.{bit-lt, bit-off, bit-zero, bit-pow, bit-pow-eq, bit-ext, some-bit, or-has, and-has}
-use Rattle.relation.specs.Rows.{has, holding, no-pairs, added, joined, or_if, gathered, image_of, composed, absorbed, through, meeting}
+use Rattle.relation.specs.Rows.{has, holding, no_pairs, added, joined, or_if, gathered, image_of, composed, absorbed, through, meeting}
 use Rattle.relation.specs.Rows.{same_rows}
 
 -- ---- relations with the same pairs are equal
@@ -60,7 +60,7 @@ zeros zero p = refl
 zeros (suc n) zero = refl
 zeros (suc n) (suc p) = zeros n p
 
-pub has-none : (p q : ℕ) → has no-pairs p q → ⊥
+pub has-none : (p q : ℕ) → has no_pairs p q → ⊥
 has-none p q h = omega (arith, ap (λ (x : ℕ). bit x q) (zeros 24 p) ∙ bit-zero q, h)
 
 pub has-added : (rows : List ℕ) (p q : ℕ) → p < length rows → (a b : ℕ) → has (added rows p q) a b ↔ (has rows a b ⊎ ((a ≡ p) × (b ≡ q)))

@@ -21,7 +21,7 @@ use Rattle.model.specs.Saturation.{WitnessRow, witness_row, BuildsAt, leaf-row, 
 use Rattle.model.specs.declared.Signature.{Signature}
 use Rattle.emptiness.specs.Surveyed.{plan_bytes}
 use Rattle.witness.specs.Plan.{plan_rows, rows_in, symbol_at, left_at, right_at, row_tree, plan_tree, parts_wrong}
-use Rattle.witness.specs.Sound.{RowIs, leaf_row, node-row, Sound}
+use Rattle.witness.specs.Sound.{RowIs, leaf_row, node_row, Sound}
 use Rattle.witness.proofs.Passed.{PlanPassed, sound, leaf-tree, node-tree}
 
 -- ---- the rows, from bytes and back
@@ -77,7 +77,7 @@ module _ (p : List ℕ) (s : Sound p) where
     where
       by : RowIs p i → ((j : ℕ) → j < i → BuildsAt (plan_rows p) j (row_tree p j)) → BuildsAt (plan_rows p) i (row_tree p i)
       by (leaf_row a b) later = rw (leaf-tree p s i a) (leaf-built i l a b)
-      by (node-row a b) later =
+      by (node_row a b) later =
           let t = node-tree p s i l (λ e. omega (arith, s.few)) in
           rw t.tree (node-row (row-nth p i l) a b (later (left_at p i) a) (later (right_at p i) b))
 
@@ -87,7 +87,7 @@ module _ (p : List ℕ) (s : Sound p) where
     where
       by : RowIs p i → ((j : ℕ) → j < i → height (row_tree p j) ≤ j) → height (row_tree p i) ≤ i
       by (leaf_row a b) later = rw (leaf-tree p s i a) (omega arith)
-      by (node-row a b) later =
+      by (node_row a b) later =
           let t = node-tree p s i l (λ e. omega (arith, s.few)) in
           rw t.tree (omega (arith, later (left_at p i) a, later (right_at p i) b))
 

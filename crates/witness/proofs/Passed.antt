@@ -18,7 +18,7 @@ use Rattle.refusal.specs.Checks.{refuse_if, refuse_at}
 use Rattle.refusal.specs.declared.Fault.{Fault}
 use Rattle.refusal.proofs.Passed.{both-passed, if-passed, at-passed, or-is-false}
 use Rattle.witness.specs.Plan.{rows_in, symbol_at, left_at, right_at, tree_within, row_tree, length_wrong, parts_wrong, row_wrong, plan_check}
-use Rattle.witness.specs.Sound.{RowIs, leaf_row, node-row, Sound}
+use Rattle.witness.specs.Sound.{RowIs, leaf_row, node_row, Sound}
 
 -- ---- where 15 passes
 
@@ -71,7 +71,7 @@ row_is : (p : List ℕ) (i : ℕ) (branch : Bool) → parts_wrong branch i (left
 unfolding parts_wrong
 row_is p i true e =
     let both = or-is-false (leb i (left_at p i)) (leb i (right_at p i)) e in
-    node-row (leb-false _ _ both.0) (leb-false _ _ both.1)
+    node_row (leb-false _ _ both.0) (leb-false _ _ both.1)
 row_is p i false e =
     let both = or-is-false (not (eqb (left_at p i) 255)) (not (eqb (right_at p i) 255)) e in
     leaf_row (eqb-true _ _ (not-false _ both.0)) (eqb-true _ _ (not-false _ both.1))
@@ -109,7 +109,7 @@ module _ (p : List ℕ) (s : Sound p) where
     where
       by : RowIs p i → ((j : ℕ) → j < i → j < rows_in p → tree_within p f j ≡ tree_within p g j) → tree_within p (suc f) i ≡ tree_within p (suc g) i
       by (leaf_row a b) later = within-leaf p f i a ∙ sym (within-leaf p g i a)
-      by (node-row a b) later =
+      by (node_row a b) later =
           let n = not_255 i l a in
           within-node p f i n ∙ cc (later (left_at p i) a (omega arith), later (right_at p i) b (omega arith)) ∙ sym (within-node p g i n)
 
@@ -128,7 +128,7 @@ module _ (p : List ℕ) (s : Sound p) where
     where
       by : RowIs p i → NodeRow i
       by (leaf_row a b) = absurd (n a)
-      by (node-row a b) =
+      by (node_row a b) =
           record {
             left = a;
             right = b;

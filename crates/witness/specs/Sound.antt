@@ -6,7 +6,7 @@ use Rattle.witness.specs.Plan.{rows_in, left_at, right_at, row_tree}
 
 pub data RowIs (p : List ℕ) (i : ℕ) : Type 0 where
   leaf_row : left_at p i ≡ 255 → right_at p i ≡ 255 → RowIs p i
-  node-row : left_at p i < i → right_at p i < i → RowIs p i
+  node_row : left_at p i < i → right_at p i < i → RowIs p i
 
 -- what 15 leaves, of the rows alone
 pub record Sound (p : List ℕ) : Type 0 where
