@@ -1,6 +1,5 @@
 -- `blocks::add_words` meets its contract: each sum takes its word, and runs round as the total may.
 -- Assumes nothing.
-use Rattle.std.proofs.Common.{rules}
 use Rattle.blocks.proofs.Laws.{words-added}
 use Rattle.blocks.proofs.add_words.Goals as goal
 
@@ -9,7 +8,7 @@ returns c =
     let one = c in
     let two = c in
     let three = c in
-    rw (one.wrapping_add_u32.ensures, two.wrapping_add_u32-2.ensures, three.wrapping_add_u32-3.ensures, c.wrapping_add_u32-4.ensures)
+    rw (one.wrapping_add_u32.ensures.value, two.wrapping_add_u32-2.ensures.value, three.wrapping_add_u32-3.ensures.value, c.wrapping_add_u32-4.ensures.value)
     (words-added
     _
     _

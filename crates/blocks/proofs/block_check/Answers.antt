@@ -1,10 +1,13 @@
 -- `blocks::block_check` meets its contract. The invariant: the four sums together are b + 1 and the first 4 k words, modulo 2^32.
 -- Assumes nothing.
-use Rattle.std.proofs.Common.{◌≡◌, ◌+◌, ◌-◌, ◌*◌, ◌%◌, ◌^◌, ◌≤◌, refl, ◌∙◌, arith, rules}
+use Rattle.std.proofs.Common.{◌≡◌, refl, ◌∙◌, arith, rules}
 use Rattle.blocks.specs.Blocks.{word_sum, block_check}
-use Rattle.blocks.specs.Sums.{total}
 use Rattle.blocks.proofs.Laws.{step-more}
 use Rattle.blocks.proofs.block_check.Goals as goal
+
+pub loop-k-init : goal.loop-k-init
+unfolding word_sum
+loop-k-init c = search rules
 
 pub loop-k-preserved : goal.loop-k-preserved
 loop-k-preserved c =

@@ -1,9 +1,8 @@
 -- `blocks::block_check` meets its contract. The invariant: the four sums together are b + 1 and the first 4 k words, modulo 2^32.
 -- Assumes nothing.
-use Rattle.std.proofs.Common.{◌≡◌, ◌+◌, ◌-◌, ◌*◌, ◌%◌, ◌^◌, ◌≤◌, refl, ◌∙◌, arith, rules}
-use Rattle.blocks.specs.Blocks.{word_sum, block_check}
+use Rattle.std.proofs.Common.{◌≡◌, ◌+◌, ◌-◌, ◌*◌, ◌%◌, ◌^◌, ◌≤◌}
+use Rattle.blocks.specs.Blocks.{word_sum}
 use Rattle.blocks.specs.Sums.{total}
-use Rattle.blocks.proofs.Laws.{step-more}
 use Rattle.blocks.proofs.block_check.Given as goal
 
 abbrev pub invariant-loop-k : goal.invariant-loop-k

@@ -1,9 +1,7 @@
 -- `blocks::first_bad_block` meets its contract. The invariant: what is left of the search, from b on, gives the answer.
 -- Assumes nothing.
-use Rattle.std.proofs.Common.{◌≡◌, ◌-◌, ◌≤◌, sym, ◌∙◌, rules}
+use Rattle.std.proofs.Common.{sym, ◌∙◌, rules}
 use native.Mathlib.Nat.{sub-zero}
-use Rattle.blocks.specs.Blocks.{check_wrong}
-use Rattle.blocks.specs.Search.{lowest, lowest_from}
 use Rattle.blocks.proofs.Laws.{lowest-passed, lowest-hit, lowest-none, check-wrong, check-right}
 use Rattle.blocks.proofs.first_bad_block.Goals as goal
 

@@ -1,9 +1,13 @@
 -- `blocks::join` meets its contract. The invariant: at the front are the contents of the first b blocks, and the rest is as it was.
 -- Assumes nothing.
-use Rattle.std.proofs.Common.{◌≡◌, ◌-◌, ◌*◌, ◌/◌, ◌≤◌, ◌++◌, length, drop, sym, ◌∙◌, arith, rules}
+use Rattle.std.proofs.Common.{◌≡◌, ◌*◌, ◌/◌, length, sym, ◌∙◌, arith, rules}
 use Rattle.blocks.specs.Blocks.{contents, content}
 use Rattle.blocks.proofs.Laws.{content-length, joined-more}
 use Rattle.blocks.proofs.join.Goals as goal
+
+pub loop-b-init : goal.loop-b-init
+unfolding contents
+loop-b-init c = search rules
 
 pub loop-b-preserved : goal.loop-b-preserved
 loop-b-preserved c =

@@ -1,8 +1,7 @@
 -- `blocks::join` meets its contract. The invariant: at the front are the contents of the first b blocks, and the rest is as it was.
 -- Assumes nothing.
-use Rattle.std.proofs.Common.{◌≡◌, ◌-◌, ◌*◌, ◌/◌, ◌≤◌, ◌++◌, length, drop, sym, ◌∙◌, arith, rules}
-use Rattle.blocks.specs.Blocks.{contents, content}
-use Rattle.blocks.proofs.Laws.{content-length, joined-more}
+use Rattle.std.proofs.Common.{◌≡◌, ◌-◌, ◌*◌, ◌≤◌, ◌++◌, length, drop}
+use Rattle.blocks.specs.Blocks.{contents}
 use Rattle.blocks.proofs.join.Given as goal
 
 abbrev pub invariant-loop-b : goal.invariant-loop-b

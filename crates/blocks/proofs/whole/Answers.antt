@@ -1,6 +1,6 @@
 -- `blocks::whole` meets its contract.
 -- Assumes nothing.
-use Rattle.std.proofs.Common.{arith, rules}
+use Rattle.std.proofs.Common.{arith}
 use Rattle.blocks.proofs.whole.Goals as goal
 
 pub returns : goal.returns

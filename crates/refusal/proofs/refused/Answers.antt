@@ -1,6 +1,5 @@
 -- `refusal::refused` meets its contract: the number is the line's.
 -- Assumes nothing.
-use borrow.Author.Rules.{rules}
 use Rattle.refusal.proofs.refused.Goals as goal
 
 pub returns : goal.returns

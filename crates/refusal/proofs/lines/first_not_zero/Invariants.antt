@@ -1,20 +1,11 @@
 -- `refusal::lines::first_not_zero` meets its contract. The invariant: what is left of the search gives the answer. What a step passes over need
 -- not be zero: from 32 on every bit of a `u32` is 0, and it is before the payload's end.
 -- Assumes nothing.
-use borrow.Author.Rules.{rules}
-use borrow.Author.Tests.{lt-leb}
-use Prim.Native.Nat.{ℕ, ◌-◌, ◌^◌, ◌≤◌, ◌<◌}
-use mathlib.Core.Path.{◌≡◌, sym, ◌∙◌}
-use mathlib.Core.Bool.{false}
-use mathlib.Core.List.{List}
-use native.Mathlib.Nat.{sub-zero}
-use native.Mathlib.Decide.{dec_lt}
-use native.Mathlib.Omega.{arith}
+use Prim.Native.Nat.{◌-◌}
+use mathlib.Core.Path.{◌≡◌}
 use lib.ListN.{length}
 use Rattle.blocks.specs.Search.{lowest, lowest_from}
-use Rattle.blocks.proofs.Laws.{lowest-skipped, lowest-hit, lowest-none}
-use Rattle.refusal.specs.Lines.{must_be_zero, not_zero}
-use Rattle.refusal.proofs.Cases.{no-bit}
+use Rattle.refusal.specs.Lines.{not_zero}
 use Rattle.refusal.proofs.lines.first_not_zero.Given as goal
 
 abbrev pub invariant-loop-at : goal.invariant-loop-at

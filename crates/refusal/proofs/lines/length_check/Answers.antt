@@ -1,6 +1,5 @@
 -- `refusal::lines::length_check` meets its contract: at each return the tests that led there pick the case.
 -- Assumes nothing.
-use borrow.Author.Rules.{rules}
 use Rattle.refusal.specs.Lines.{length_check}
 use Rattle.refusal.proofs.Cases.{checks}
 use Rattle.refusal.proofs.lines.length_check.Goals as goal

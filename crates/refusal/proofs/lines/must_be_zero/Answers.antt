@@ -1,6 +1,5 @@
 -- `refusal::lines::must_be_zero` meets its contract: from 32 on every bit of a `u32` is 0.
 -- Assumes nothing.
-use borrow.Author.Rules.{rules}
 use borrow.Author.Tests.{ne_eqb}
 use Rattle.refusal.specs.Lines.{must_be_zero}
 use Rattle.refusal.proofs.Cases.{no-bit}

@@ -1,6 +1,5 @@
 -- `refusal::lines::not_zero` meets its contract: the first test decides, or leaves the second.
 -- Assumes nothing.
-use borrow.Author.Rules.{rules}
 use mathlib.Core.Path.{sym, ◌∙◌}
 use Rattle.refusal.specs.Lines.{not_zero}
 use Rattle.refusal.proofs.lines.not_zero.Goals as goal

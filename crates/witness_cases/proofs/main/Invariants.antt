@@ -1,0 +1,11 @@
+-- `witness_cases::main` ends, after 10,000 cases at most.
+-- Assumes nothing.
+use borrow.Author.Rules.{rules}
+use Prim.Native.Nat.{◌-◌, ◌≤◌}
+use Rattle.witness_cases.proofs.main.Given as goal
+
+abbrev pub invariant-loop : goal.invariant-loop
+invariant-loop l = l.counter ≤ 10000
+
+abbrev pub decreases-loop : goal.decreases-loop
+decreases-loop l = 10000 - l.counter
