@@ -8,12 +8,12 @@ use Rattle.automaton.proofs.rules.is_misplaced.Goals as goal
 
 pub returns-in-Stay : goal.returns-in-Stay
 unfolding misplaced
-returns-in-Stay c = rw c.enum_told-1.given.1
+returns-in-Stay c = rw c.in-Stay.is
 
 pub returns-in-Up : goal.returns-in-Up
 unfolding misplaced
-returns-in-Up c = rw c.enum_told-in-Up-1.given.1 c.may_be_root.ensures
+returns-in-Up c = rw c.in-Up.is c.may_be_root.ensures
 
 pub returns-in-Down : goal.returns-in-Down
 unfolding misplaced
-returns-in-Down c = rw c.enum_told-in-Down-1.given.1 (ap not c.is_branch.ensures)
+returns-in-Down c = rw c.in-Down.is (ap not c.is_branch.ensures)

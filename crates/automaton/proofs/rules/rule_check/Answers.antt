@@ -8,16 +8,16 @@ use Rattle.automaton.proofs.rules.rule_check.Goals as goal
 
 pub returns-in_default : goal.returns-in_default
 unfolding rule_check
-returns-in_default c = rw (sym c.rule_at.ensures ∙ c.enum_told-1.given.1) c.refused.ensures
+returns-in_default c = rw (sym c.rule_at.ensures ∙ c.in_default.is) c.refused.ensures
 
 pub returns-then-is_misplaced : goal.returns-then-is_misplaced
 unfolding rule_check
 returns-then-is_misplaced c =
-    let known = sym c.rule_at.ensures ∙ c.rule-1.given.1 in
+    let known = sym c.rule_at.ensures ∙ c.in-Known.is in
     rw known (refuse-if _ _ _ _ (sym c.is_misplaced.ensures ∙ c.if-is_misplaced.true) c.refused-then-is_misplaced.ensures)
 
 pub returns : goal.returns
 unfolding rule_check
 returns c =
-    let known = sym c.rule_at.ensures ∙ c.rule-1.given.1 in
+    let known = sym c.rule_at.ensures ∙ c.in-Known.is in
     rw known (pass-if _ _ _ _ (sym c.is_misplaced.ensures ∙ c.if-is_misplaced.false))

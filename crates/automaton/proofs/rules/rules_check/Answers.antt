@@ -15,12 +15,12 @@ loop-i-init c = (search rules, rw sub-zero)
 pub returns-in-Refused : goal.returns-in-Refused
 returns-in-Refused c =
     let l = c.loop-i in
-    sym (l.invariant.1 ∙ each-stop _ l.i _ (search rules) (sym c.rule_check.ensures ∙ c.refusal-1.given.1))
+    sym (l.invariant.1 ∙ each-stop _ l.i _ (search rules) (sym c.rule_check.ensures ∙ c.in-Refused.is))
 
 pub loop-i-preserved : goal.loop-i-preserved
 loop-i-preserved c =
     let l = c.loop-i in
-    (search rules, l.invariant.1 ∙ each_next _ l.i _ (search rules) (sym c.rule_check.ensures ∙ c.enum_told-1.given.1))
+    (search rules, l.invariant.1 ∙ each_next _ l.i _ (search rules) (sym c.rule_check.ensures ∙ c.in_default.is))
 
 pub returns : goal.returns
 returns c = sym (c.loop-i.invariant.1 ∙ each-done _ _ _ (search rules))

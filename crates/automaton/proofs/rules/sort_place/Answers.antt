@@ -8,19 +8,19 @@ use Rattle.automaton.proofs.rules.sort_place.Goals as goal
 
 pub returns-in-0 : goal.returns-in-0
 unfolding sort_place
-returns-in-0 c = rw c.in-0.keys1
+returns-in-0 c = rw c.in-0.is
 
 pub returns-in-1 : goal.returns-in-1
 unfolding sort_place
-returns-in-1 c = rw c.in-1.keys2
+returns-in-1 c = rw c.in-1.is
 
 pub returns-in-2 : goal.returns-in-2
 unfolding sort_place
-returns-in-2 c = rw c.in-2.keys3
+returns-in-2 c = rw c.in-2.is
 
 pub returns-in-3 : goal.returns-in-3
 unfolding sort_place
-returns-in-3 c = rw c.in-3.keys4
+returns-in-3 c = rw c.in-3.is
 
 pub returns-in-4-to-255 : goal.returns-in-4-to-255
 unfolding sort_place
