@@ -1,4 +1,3 @@
-pub mod Values
 pub mod Turns
 pub mod Reached
 pub mod Counted

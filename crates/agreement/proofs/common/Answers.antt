@@ -1,6 +1,5 @@
 -- `agreement::common` meets its contract: whole entries of the bytes in common.
 -- Assumes nothing.
-use borrow.Author.Rules.{rules}
 use native.Mathlib.Omega.{arith}
 use mathlib.Core.Path.{refl, sym}
 use lib.Seq.{length-take-le}
@@ -9,9 +8,9 @@ use Rattle.agreement.proofs.common.Goals as goal
 
 pub slice_bounds-result-end : goal.slice_bounds-result-end
 slice_bounds-result-end c =
-    let given = c.before.before.before.before.args in
+    let given = c.args in
     let most = common-within given.first.now given.second.now in
-    sym (length-take-le _ _ (omega (arith, c.common-bytes.ensures, most.0, most.1)))
+    sym (length-take-le _ _ (omega (arith, c.common_bytes.ensures, most.0, most.1)))
 
 pub returns : goal.returns
-returns c = (refl, (rw c.common-bytes.ensures refl, common-longest _ _))
+returns c = record { itself = refl; equals = rw c.common_bytes.ensures refl; longest = common-longest _ _ }

@@ -1,8 +1,6 @@
 -- `agreement::common_bytes` meets its contract. The invariant: what is left from byte `at` on gives the answer.
 -- Assumes nothing.
-use borrow.Author.Rules.{rules}
-use Prim.Native.Nat.{◌-◌}
-use Rattle.agreement.proofs.Agreeing.{Searched, searched-begins, searched-differs, searched-on, searched-all}
+use Rattle.agreement.proofs.Agreeing.{searched-begins, searched-differs, searched-on, searched-all}
 use Rattle.agreement.proofs.common_bytes.Goals as goal
 
 pub loop-at-init : goal.loop-at-init

@@ -1,9 +1,7 @@
 -- `block_writer::check_for` meets its contract.
 -- Assumes nothing.
-use Rattle.std.proofs.Common.{◌≡◌, ◌+◌, ◌-◌, ◌*◌, ◌%◌, ◌^◌, ◌≤◌, ap, arith, rules}
+use Rattle.std.proofs.Common.{◌≡◌, ◌+◌, ◌-◌, ◌%◌, ◌^◌, ◌≤◌}
 use Rattle.blocks.specs.Blocks.{word_sum}
-use Rattle.blocks.proofs.Laws.{word-sum-more}
-use Rattle.blocks.specs.FileOf.{check_for}
 use Rattle.block_writer.proofs.check_for.Given as goal
 
 abbrev pub invariant-loop-k : goal.invariant-loop-k

@@ -1,6 +1,6 @@
 -- `block_writer::file_byte` meets its contract.
 -- Assumes nothing.
-use Rattle.std.proofs.Common.{rules, le-ltb, lt-ltb}
+use Rattle.std.proofs.Common.{le-ltb, lt-ltb}
 use Rattle.blocks.specs.FileOf.{file_byte}
 use Rattle.block_writer.proofs.file_byte.Goals as goal
 

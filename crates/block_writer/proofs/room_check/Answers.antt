@@ -1,6 +1,6 @@
 -- `block_writer::room_check` meets its contract.
 -- Assumes nothing.
-use Rattle.std.proofs.Common.{◌*◌, sym, ◌∙◌, arith, rules}
+use Rattle.std.proofs.Common.{◌*◌, sym, ◌∙◌, arith}
 use Rattle.blocks.specs.FileOf.{blocks_needed}
 use Rattle.block_writer.proofs.Answers.{room-short, room-enough}
 use Rattle.block_writer.proofs.room_check.Goals as goal

@@ -1,6 +1,6 @@
 -- `block_writer::word_byte` meets its contract.
 -- Assumes nothing.
-use Rattle.std.proofs.Common.{◌≡◌, arith, rules}
+use Rattle.std.proofs.Common.{◌≡◌, arith}
 use Rattle.blocks.specs.FileOf.{word_bytes}
 use Rattle.block_writer.proofs.word_byte.Goals as goal
 

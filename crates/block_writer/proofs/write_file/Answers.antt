@@ -1,28 +1,35 @@
 -- `block_writer::write_file` meets its contract.
 -- Assumes nothing.
--- the check of a block that has begun
-use Rattle.std.proofs.Common.{◌≡◌, ◌+◌, ◌-◌, ◌*◌, ◌/◌, ◌%◌, ◌<◌, ◌≤◌, ◌++◌, length, take, drop, sym, refl, ap, ◌∙◌, ⊎_elim, arith, length-set, take_all, rules}
+use Rattle.std.proofs.Common.{◌≡◌, ◌+◌, ◌*◌, ◌/◌, ◌%◌, ◌<◌, ◌≤◌, ◌++◌, length, drop, sym, refl, ap, ◌∙◌, arith, length-set, take_all, rules}
 use Rattle.blocks.proofs.Laws.{copied_more}
 use Rattle.blocks.specs.FileOf.{blocks_needed, check_for, file_of}
 use Rattle.blocks.proofs.Written.{file-length, file-at}
+use Rattle.block_writer.proofs.write_file.Goals.{then-i-eq508, else-i-eq508}
 use Rattle.block_writer.proofs.write_file.Goals as goal
-
-at-hand : (c : tie.Joined1 invariant-loop decreases-loop) → 508 ≤ c.before.before.loop.i % 512
-    → c.if1.check ≡ check_for c.before.before.before.before.before.args.payload.now (c.before.before.loop.i / 512)
-at-hand c h =
-    ⊎_elim (λ w. w.2 ∙ w.1.ensures) (λ w. let past : 508 < c.before.before.loop.i % 512 = omega (arith, w.0.left) in w.1 ∙ c.before.before.loop.invariant.3 past)
-    c.if1.branch
 
 pub loop-i-init : goal.loop-i-init
 loop-i-init c = (search rules, search rules, refl, λ h. absurd (omega arith))
 
 pub file_byte-requires : goal.file_byte-requires
-file_byte-requires c κs = (search rules, at-hand c)
+file_byte-requires c = (
+  search rules,
+  λ h.
+      elim c.if-i-eq508.branch [
+        | then-i-eq508 w ↦ w.check-is ∙ w.check_for-check.ensures
+        | else-i-eq508 w ↦ w.check-is ∙ c.loop-i.invariant.3 (omega arith)
+      ],
+)
 
 pub loop-i-preserved : goal.loop-i-preserved
 loop-i-preserved c =
     let l = c.loop-i in
     let a = c.args in
+    let at_hand : 508 ≤ c.loop-i.i % 512 → c.if-i-eq508.check ≡ check_for c.args.payload.now (c.loop-i.i / 512) =
+    λ h.
+    elim c.if-i-eq508.branch [
+      | then-i-eq508 w ↦ w.check-is ∙ w.check_for-check.ensures
+      | else-i-eq508 w ↦ w.check-is ∙ c.loop-i.invariant.3 (omega arith)
+    ] in
     let here : l.i < 512 * blocks_needed (length a.payload.now) = search rules in (
       search rules,
       simp length-set (search rules),
@@ -30,7 +37,7 @@ loop-i-preserved c =
           (copied_more (file_of a.payload.now) a.out.now l.i (rw (file-length a.payload.now) here) (search rules)),
       λ h.
           let same : (l.i + 1) / 512 ≡ l.i / 512 = omega arith in
-          at-hand c (omega arith) ∙ ap (check_for a.payload.now) (sym same),
+          at_hand (omega arith) ∙ ap (check_for a.payload.now) (sym same),
     )
 
 pub returns : goal.returns

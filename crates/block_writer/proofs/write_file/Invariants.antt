@@ -1,10 +1,7 @@
 -- `block_writer::write_file` meets its contract.
 -- Assumes nothing.
--- the check of a block that has begun
-use Rattle.std.proofs.Common.{◌≡◌, ◌+◌, ◌-◌, ◌*◌, ◌/◌, ◌%◌, ◌<◌, ◌≤◌, ◌++◌, length, take, drop, sym, refl, ap, ◌∙◌, ⊎_elim, arith, length-set, take_all, rules}
-use Rattle.blocks.proofs.Laws.{copied_more}
-use Rattle.blocks.specs.FileOf.{blocks_needed, check_for, file_of}
-use Rattle.blocks.proofs.Written.{file-length, file-at}
+use Rattle.std.proofs.Common.{◌≡◌, ◌-◌, ◌/◌, ◌%◌, ◌<◌, ◌≤◌, ◌++◌, length, take, drop}
+use Rattle.blocks.specs.FileOf.{check_for, file_of}
 use Rattle.block_writer.proofs.write_file.Given as goal
 
 abbrev pub invariant-loop-i : goal.invariant-loop-i

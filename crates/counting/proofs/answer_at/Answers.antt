@@ -2,7 +2,6 @@
 -- Assumes nothing.
 use native.Mathlib.Omega.{arith}
 use Rattle.counting.proofs.Turns.{turn-none, turn_is}
-use borrow.Author.Rules.{rules}
 use Rattle.counting.proofs.answer_at.Goals as goal
 
 pub returns-then-answers-lt3 : goal.returns-then-answers-lt3

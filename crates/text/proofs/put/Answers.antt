@@ -1,6 +1,5 @@
 -- `text::put` meets its contract: a copy to the front of what stands from the place on.
 -- Assumes nothing.
-use borrow.Author.Rules.{rules}
 use Rattle.text.proofs.Laws.{copied}
 use Rattle.text.proofs.put.Goals as goal
 

@@ -1,6 +1,5 @@
 -- `text::put_field` meets its contract: one after the other.
 -- Assumes nothing.
-use borrow.Author.Rules.{rules}
 use native.Mathlib.Omega.{arith}
 use Rattle.text.proofs.Laws.{then}
 use Rattle.text.proofs.put_field.Goals as goal
