@@ -23,27 +23,22 @@ use Rattle.answers.proofs.judge_all.Goals as goal
 both : (w s lent g : List ℕ) (o : Outcome) → o ≡ judged_all w s lent g → (o ≡ judged_all w s lent g) × Each w s o
 both w s lent g o e = (e, rw e (each w s lent g))
 
-module _ (c : tie.After-known-told2) where
-  abbrev w : List ℕ
-  w = c.before.before.before.before.before.before.before.before.before.args.automaton.now
-
-  abbrev h : Header
-  h = c.before.header.given.0.0
-
-  read : parsed w ≡ Parsed.Read h
-  read = sym c.before.before.before.load.ensures.0 ∙ c.before.header.given.1
-
-  headed : Headed (automaton_of h (content w)) h c.before.before.before.load.new.1.0
-  headed = file-headed w h _ read (loaded-read _ h w _ _ c.before.header.given.1 c.before.before.before.load.ensures.1)
-
 pub judge_files-requires : goal.judge_files-requires
-judge_files-requires c κs = let told = c in file-limits (w told) (h told) (read told)
+judge_files-requires c =
+    let w : List ℕ = c.args.automaton.now in
+    let h : Header = c.in-Read.header in
+    let read : parsed w ≡ Parsed.Read h = sym c.load.ensures.0 ∙ c.in-Read.is in
+    let told = c in file-limits (w) (h) (read)
 
 pub returns-in-Refused : goal.returns-in-Refused
-returns-in-Refused c = both _ _ _ _ _ (all-refused _ _ _ _ _ (sym c.load.ensures.0 ∙ c.refusal-1.given.1))
+returns-in-Refused c = both _ _ _ _ _ (all-refused _ _ _ _ _ (sym c.load.ensures.0 ∙ c.in-Refused.is))
 
 pub returns-in-Read : goal.returns-in-Read
 returns-in-Read c =
+    let w : List ℕ = c.args.automaton.now in
+    let h : Header = c.in-Read.header in
+    let read : parsed w ≡ Parsed.Read h = sym c.load.ensures.0 ∙ c.in-Read.is in
+    let headed : Headed (automaton_of h (content w)) h c.load.new.table = file-headed w h _ read (loaded-read _ h w _ _ c.in-Read.is c.load.ensures.1) in
     let told = c in
-    let e = c.judge_files.ensures _ (headed told) in
-    both _ _ _ _ _ (all_read _ _ _ _ _ (read told) _ _ _ e.0 e.1 e.2)
+    let e = c.judge_files.ensures _ (headed) in
+    both _ _ _ _ _ (all_read _ _ _ _ _ (read) _ _ _ e.0 e.1 e.2)

@@ -9,20 +9,24 @@ use Rattle.automaton.specs.Payload.{payload_of}
 use Rattle.automaton_writer.proofs.Bytes.{payload-length}
 use Rattle.automaton_writer.proofs.write_automaton.Goals as goal
 
-payload-is : (c : tie.After-write-payload) → take c.write-payload.result c.write-payload.new.1.1.0
-    ≡ payload_of c.before.before.before.before.args.header c.before.before.before.before.args.records.now
-payload-is c = front _ _ _ _ c.write-payload.ensures.0 c.write-payload.ensures.1
-
 pub slice_bounds-payload-end : goal.slice_bounds-payload-end
 slice_bounds-payload-end c = let w = c.write_payload-len.ensures in omega (arith, w.0, simp length-append at (ap length w.1))
 
 pub slice_bounds-write_file-end : goal.slice_bounds-write_file-end
-slice_bounds-write_file-end c = rw (payload-is c) c.write_payload-len.ensures.0
+slice_bounds-write_file-end c =
+    let payload-is : take c.write_payload-len.result c.write_payload-len.new.payload
+        ≡ payload_of c.args.header c.args.records.now = front _ _ _ _ c.write_payload-len.ensures.0 c.write_payload-len.ensures.1 in
+    rw (payload-is) c.write_payload-len.ensures.0
 
 pub write_file-requires : goal.write_file-requires
-write_file-requires c κs =
+write_file-requires c =
+    let payload-is : take c.write_payload-len.result c.write_payload-len.new.payload
+        ≡ payload_of c.args.header c.args.records.now = front _ _ _ _ c.write_payload-len.ensures.0 c.write_payload-len.ensures.1 in
     let s = c in
-    rw (payload-is c, payload-length s.args.header s.args.records.now) s.requires.1
+    rw (payload-is, payload-length s.args.header s.args.records.now) s.requires.1
 
 pub returns : goal.returns
-returns c = rw (payload-is c) at c.write_file.ensures
+returns c =
+    let payload-is : take c.write_payload-len.result c.write_payload-len.new.payload
+        ≡ payload_of c.args.header c.args.records.now = front _ _ _ _ c.write_payload-len.ensures.0 c.write_payload-len.ensures.1 in
+    rw (payload-is) at c.write_file.ensures

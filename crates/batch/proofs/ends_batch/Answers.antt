@@ -5,4 +5,4 @@ use mathlib.Core.Path.{refl}
 use Rattle.batch.proofs.ends_batch.Goals as goal
 
 pub returns-in-Refused : goal.returns-in-Refused
-returns-in-Refused c = rw c.answer-1.given.1 refl
+returns-in-Refused c = rw c.in-Refused.is refl

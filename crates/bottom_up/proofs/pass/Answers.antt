@@ -25,9 +25,9 @@ returns-in_default c = (λ A k h. ((c.loop-at.invariant.3 A k h).cached, tt), tt
 pub loop-at-preserved : goal.loop-at-preserved
 loop-at-preserved c =
     let v = c.loop-at.invariant in
-    let on = c.next-1.given.1 in
+    let on = c.in-On.is in
     let few = rw on at c.node_step.ensures.1 in
-    let here = symbol-here _ _ _ (sym c.symbol-1.given.1 ∙ c.read_at.ensures) in (
+    let here = symbol-here _ _ _ (sym c.in-Node.is ∙ c.read_at.ensures) in (
       omega (arith, c.loop-at-test.true),
       omega (arith, v.1),
       omega (arith, few, v.2, v.1, c.loop-at-test.true),
@@ -35,7 +35,7 @@ loop-at-preserved c =
     )
 
 pub returns-in-Off : goal.returns-in-Off
-returns-in-Off c = (λ A k h. (rw c.enum_told-in-Off-1.given.1 at (c.node_step.ensures.0 A _ k (c.loop-at.invariant.3 A k h)), tt), tt)
+returns-in-Off c = (λ A k h. (rw c.in-Off.is at (c.node_step.ensures.0 A _ k (c.loop-at.invariant.3 A k h)), tt), tt)
 
 pub returns : goal.returns
 returns c =

@@ -26,11 +26,11 @@ loop-symbol-init c = (search rules, search rules, λ A k. begun A refl (no_rows 
 
 pub returns-in-Accepted : goal.returns-in-Accepted
 unfolding flat_map
-returns-in-Accepted c = (tt, λ A k. ended A _ (set_split _ 0 c.args.header.branches c.loop-symbol.symbol c.args.header.symbols (search rules)) (turned c A k c.origin-1.given.1))
+returns-in-Accepted c = (tt, λ A k. ended A _ (set_split _ 0 c.args.header.branches c.loop-symbol.symbol c.args.header.symbols (search rules)) (turned c A k c.in-Accepted.is))
 
 pub loop-symbol-preserved : goal.loop-symbol-preserved
 unfolding flat_map
-loop-symbol-preserved c = (search rules, few-kept c.m-1.given.1 c.try_if_leaf.ensures.0, λ A k. turned c A k c.m-1.given.1)
+loop-symbol-preserved c = (search rules, few-kept c.in-Kept.is c.try_if_leaf.ensures.0, λ A k. turned c A k c.in-Kept.is)
 
 pub returns : goal.returns
 unfolding flat_map

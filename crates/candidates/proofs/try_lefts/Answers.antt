@@ -38,11 +38,11 @@ loop-left-init c = (search rules, search rules, λ A k base before h e s i. begu
 
 pub returns-in-Accepted : goal.returns-in-Accepted
 unfolding flat_map count_from
-returns-in-Accepted c = (tt, λ A k base before h e s i. ended A _ (count-split _ c.loop-left.left c.args.to (search rules)) (turned c A k base before h e s i c.origin-1.given.1))
+returns-in-Accepted c = (tt, λ A k base before h e s i. ended A _ (count-split _ c.loop-left.left c.args.to (search rules)) (turned c A k base before h e s i c.in-Accepted.is))
 
 pub loop-left-preserved : goal.loop-left-preserved
 unfolding flat_map count_from
-loop-left-preserved c = (search rules, few-kept c.m-1.given.1 c.try_left.ensures.0, λ A k base before h e s i. turned c A k base before h e s i c.m-1.given.1)
+loop-left-preserved c = (search rules, few-kept c.in-Kept.is c.try_left.ensures.0, λ A k base before h e s i. turned c A k base before h e s i c.in-Kept.is)
 
 pub returns : goal.returns
 unfolding flat_map count_from

@@ -33,10 +33,10 @@ pub loop-right-init : goal.loop-right-init
 loop-right-init c = (search rules, search rules, search rules, λ A k base before h e m s. begun A (range_none _ _) h)
 
 pub returns-in-Accepted : goal.returns-in-Accepted
-returns-in-Accepted c = (tt, λ A k base before h e m s. rw (map-flat _ _) (ended A _ (range_split _ _ _ _ c.loop-right.invariant.0 (search rules)) (turned c A k base before h e m s c.origin-1.given.1)))
+returns-in-Accepted c = (tt, λ A k base before h e m s. rw (map-flat _ _) (ended A _ (range_split _ _ _ _ c.loop-right.invariant.0 (search rules)) (turned c A k base before h e m s c.in-Accepted.is)))
 
 pub loop-right-preserved : goal.loop-right-preserved
-loop-right-preserved c = (search rules, search rules, few-kept c.m-1.given.1 c.try_right.ensures.0, λ A k base before h e m s. turned c A k base before h e m s c.m-1.given.1)
+loop-right-preserved c = (search rules, search rules, few-kept c.in-Kept.is c.try_right.ensures.0, λ A k base before h e m s. turned c A k base before h e m s c.in-Kept.is)
 
 pub returns : goal.returns
 returns c =

@@ -41,34 +41,37 @@ made : (s : List ℕ) (h : Header) (table out : List ℕ) (o : Filled) → parse
 made s h table out o e k w =
     w ∙ ap (λ (l : List _). written_for h l out) (listed-ordered h (content s) table (file-limits s h e) k) ∙ sym (read_is s out h e)
 
-is_read : (c : tie.After-known-told2) → parsed c.before.before.before.before.before.before.before.args.file.now ≡ Parsed.Read c.before.header.given.0.0
-is_read c = sym c.before.before.before.parse.ensures.0 ∙ c.before.header.given.1
-
-content-is : (c : tie.After-content-length) → take c.content-length.result c.before.before.before.before.parse.new.1.0 ≡ content c.before.before.before.before.before.before.before.before.args.file.now
-content-is c =
-    contents-are _ _ _ _ c.before.before.header.given.0.0 _ c.before.before.header.given.1 c.before.before.before.before.parse.ensures.1 c.content-length.ensures
-
-compiled : (c : tie.After-compile) → Compiled (automaton_of c.before.before.before.before.before.header.given.0.0 (content c.before.before.before.before.before.before.before.before.before.before.before.args.file.now)) c.compile.new.1.1.0
-compiled c = rw (content-is c.before.before.before) at c.compile.ensures
-
 pub slice_bounds-contents-end : goal.slice_bounds-contents-end
-slice_bounds-contents-end c = contents-fit _ _ _ c.content_length-len.ensures (content-is c)
+slice_bounds-contents-end c =
+    let content-is : take c.content_length-len.result c.parse.new.contents ≡ content c.args.file.now = contents-are _ _ _ _ c.in-Read.header _ c.in-Read.is c.parse.ensures.1 c.content_length-len.ensures in
+    contents-fit _ _ _ c.content_length-len.ensures (content-is)
 
 pub slice_bounds-compile-end : goal.slice_bounds-compile-end
-slice_bounds-compile-end c = rw (content-is c) c.content_length-len.ensures
+slice_bounds-compile-end c =
+    let content-is : take c.content_length-len.result c.parse.new.contents ≡ content c.args.file.now = contents-are _ _ _ _ c.in-Read.header _ c.in-Read.is c.parse.ensures.1 c.content_length-len.ensures in
+    rw (content-is) c.content_length-len.ensures
 
 pub compile-requires : goal.compile-requires
-compile-requires c κs = (rw (content-is c) (file-read _ _ (is_read c)).laid_out, refl)
+compile-requires c =
+    let is_read : parsed c.args.file.now ≡ Parsed.Read c.in-Read.header = sym c.parse.ensures.0 ∙ c.in-Read.is in
+    let content-is : take c.content_length-len.result c.parse.new.contents ≡ content c.args.file.now = contents-are _ _ _ _ c.in-Read.header _ c.in-Read.is c.parse.ensures.1 c.content_length-len.ensures in
+    (rw (content-is) (file-read _ _ (is_read)).laid_out, refl)
 
 pub write_table-requires : goal.write_table-requires
-write_table-requires c κs =
-    let e = is_read c in
-    (file-limits _ _ e, room _ _ _ e (compiled c))
+write_table-requires c =
+    let is_read : parsed c.args.file.now ≡ Parsed.Read c.in-Read.header = sym c.parse.ensures.0 ∙ c.in-Read.is in
+    let content-is : take c.content_length-len.result c.parse.new.contents ≡ content c.args.file.now = contents-are _ _ _ _ c.in-Read.header _ c.in-Read.is c.parse.ensures.1 c.content_length-len.ensures in
+    let compiled : Compiled (automaton_of c.in-Read.header (content c.args.file.now)) c.compile.new.table = rw (content-is) at c.compile.ensures in
+    let e = is_read in
+    (file-limits _ _ e, room _ _ _ e (compiled))
 
 pub returns-in-Refused : goal.returns-in-Refused
-returns-in-Refused c = both _ _ _ (sym (refused-is _ _ _ (sym c.parse.ensures.0 ∙ c.refusal-1.given.1)))
+returns-in-Refused c = both _ _ _ (sym (refused-is _ _ _ (sym c.parse.ensures.0 ∙ c.in-Refused.is)))
 
 pub returns-in-Read : goal.returns-in-Read
 returns-in-Read c =
-    let e = is_read c in
-    both _ _ _ (made _ _ _ _ _ e (compiled c) c.write_table.ensures)
+    let is_read : parsed c.args.file.now ≡ Parsed.Read c.in-Read.header = sym c.parse.ensures.0 ∙ c.in-Read.is in
+    let content-is : take c.content_length-len.result c.parse.new.contents ≡ content c.args.file.now = contents-are _ _ _ _ c.in-Read.header _ c.in-Read.is c.parse.ensures.1 c.content_length-len.ensures in
+    let compiled : Compiled (automaton_of c.in-Read.header (content c.args.file.now)) c.compile.new.table = rw (content-is) at c.compile.ensures in
+    let e = is_read in
+    both _ _ _ (made _ _ _ _ _ e (compiled) c.write_table.ensures)

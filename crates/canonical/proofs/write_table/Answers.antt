@@ -9,7 +9,7 @@ pub slice_bounds-write_records-end : goal.slice_bounds-write_records-end
 slice_bounds-write_records-end c = sym (front_long _ _ _ _ (search rules) c.write_rules-len.ensures)
 
 pub write_records-requires : goal.write_records-requires
-write_records-requires c κs =
+write_records-requires c =
     let w = c.write_rules-len in
     rw (front_long _ _ _ _ (search rules) w.ensures) (front-whole _ _ _ _ (search rules) w.ensures)
 

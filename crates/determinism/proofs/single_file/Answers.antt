@@ -22,20 +22,20 @@ use Rattle.determinism.proofs.single_file.Goals as goal
 both : (s : List ℕ) (r : Singleness) → r ≡ single_of s → (r ≡ single_of s) × SingleRight s r
 both s r e = (e, rw e (single-right s))
 
-read_is : (c : tie.After-known-told2) → parsed c.before.before.before.before.before.before.args.file.now ≡ Parsed.Read c.before.header.given.0.0
-read_is c = sym c.before.before.before.load.ensures.0 ∙ c.before.header.given.1
-
 pub single_prepared-requires : goal.single_prepared-requires
 unfolding single_of
-single_prepared-requires c κs = file-limits _ _ (read_is c)
+single_prepared-requires c =
+    let read_is : parsed c.args.file.now ≡ Parsed.Read c.in-Read.header = sym c.load.ensures.0 ∙ c.in-Read.is in
+    file-limits _ _ (read_is)
 
 pub returns-in-Refused : goal.returns-in-Refused
 unfolding single_of
-returns-in-Refused c = both _ _ (rw (sym c.load.ensures.0 ∙ c.refusal-1.given.1))
+returns-in-Refused c = both _ _ (rw (sym c.load.ensures.0 ∙ c.in-Refused.is))
 
 pub returns-in-Read : goal.returns-in-Read
 unfolding single_of
 returns-in-Read c =
+    let read_is : parsed c.args.file.now ≡ Parsed.Read c.in-Read.header = sym c.load.ensures.0 ∙ c.in-Read.is in
     let told = c in
-    let compiled = loaded-read _ _ _ _ _ told.header-1.given.1 told.load.ensures.1 in
-    both _ _ (rw (read_is told) (c.single_prepared.ensures (automaton_of _ _) compiled refl refl ∙ ap single_if (sym (single-determined _ _ (file-limits _ _ (read_is told)).0))))
+    let compiled = loaded-read _ _ _ _ _ told.in-Read.is told.load.ensures.1 in
+    both _ _ (rw (read_is) (c.single_prepared.ensures (automaton_of _ _) compiled refl refl ∙ ap single_if (sym (single-determined _ _ (file-limits _ _ (read_is)).0))))

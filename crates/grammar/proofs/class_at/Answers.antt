@@ -6,7 +6,7 @@ use Rattle.grammar.specs.Reading.{class_at}
 use Rattle.grammar.proofs.class_at.Goals as goal
 
 pub class_in-requires : goal.class_in-requires
-class_in-requires c κs = c.requires
+class_in-requires c = c.requires
 
 pub returns-then-at-text : goal.returns-then-at-text
 unfolding class_at

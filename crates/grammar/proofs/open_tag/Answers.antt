@@ -11,9 +11,6 @@ use Rattle.grammar.specs.Reading.{class_at}
 use Rattle.grammar.proofs.OpenTags.{first-wrong, first_byte, short, second-wrong, second-byte, third-wrong, long}
 use Rattle.grammar.proofs.open_tag.Goals as goal
 
-first-is : (c : tie.Else1) → class_at c.before.before.before.args.text.now (c.before.before.before.args.at + 1) ≡ 1
-first-is c = sym c.before.class-at.ensures ∙ c.if1.false
-
 first_fits :
     (c : tie.Else1) →
     (c.before.before.before.args.at + 1 < length c.before.before.before.args.text.now)
@@ -37,7 +34,7 @@ second_fits c =
     second-byte _ _ b.requires.0.0 b.requires.0.1 (first-is e) (second_is c.before) c.if4.false
 
 pub class_at-requires : goal.class_at-requires
-class_at-requires c κs = c.requires.1
+class_at-requires c = c.requires.1
 
 pub returns-then-class_at-ne-DIGIT : goal.returns-then-class_at-ne-DIGIT
 returns-then-class_at-ne-DIGIT c =
@@ -51,27 +48,30 @@ pub overflow_sub-first : goal.overflow_sub-first
 overflow_sub-first c = (first_fits c).1
 
 pub class_at-class-requires : goal.class_at-class-requires
-class_at-class-requires c κs = c.requires.1
+class_at-class-requires c = c.requires.1
 
 pub returns-then-class-eq-GREATER : goal.returns-then-class-eq-GREATER
 returns-then-class-eq-GREATER c =
+    let first-is : class_at c.args.text.now (c.args.at + 1) ≡ 1 = sym c.class_at.ensures ∙ c.if-class_at-ne-DIGIT.false in
     let e = c in
     let b = e in
-    short _ _ b.requires.0.0 b.requires.0.1 (first-is e) (sym c.class_at-class.ensures ∙ c.if-class-eq-GREATER.true)
+    short _ _ b.requires.0.0 b.requires.0.1 (first-is) (sym c.class_at-class.ensures ∙ c.if-class-eq-GREATER.true)
 
 pub returns-then-class-ne-DIGIT : goal.returns-then-class-ne-DIGIT
 returns-then-class-ne-DIGIT c =
+    let first-is : class_at c.args.text.now (c.args.at + 1) ≡ 1 = sym c.class_at.ensures ∙ c.if-class_at-ne-DIGIT.false in
     let e = c in
     let b = e in
-    second-wrong _ _ b.requires.0.0 b.requires.0.1 (first-is e)
+    second-wrong _ _ b.requires.0.0 b.requires.0.1 (first-is)
     (λ k. absurd (c.if-class-ne-DIGIT.true (c.class_at-class.ensures ∙ k)))
     (λ k. c.if-class-eq-GREATER.false (c.class_at-class.ensures ∙ k))
 
 pub returns-then-first-eq0 : goal.returns-then-first-eq0
 returns-then-first-eq0 c =
+    let first-is : class_at c.args.text.now (c.args.at + 1) ≡ 1 = sym c.class_at.ensures ∙ c.if-class_at-ne-DIGIT.false in
     let e = c in
     let b = e in
-    second-wrong _ _ b.requires.0.0 b.requires.0.1 (first-is e)
+    second-wrong _ _ b.requires.0.0 b.requires.0.1 (first-is)
     (λ k. c.if-first-eq0.true)
     (λ k. c.if-class-eq-GREATER.false (c.class_at-class.ensures ∙ k))
 
@@ -82,14 +82,15 @@ pub overflow_sub-second : goal.overflow_sub-second
 overflow_sub-second c = (second_fits c).1
 
 pub class_at-requires-2 : goal.class_at-requires-2
-class_at-requires-2 c κs = c.requires.1
+class_at-requires-2 c = c.requires.1
 
 pub returns-then-class_at-ne-GREATER : goal.returns-then-class_at-ne-GREATER
 returns-then-class_at-ne-GREATER c =
+    let first-is : class_at c.args.text.now (c.args.at + 1) ≡ 1 = sym c.class_at.ensures ∙ c.if-class_at-ne-DIGIT.false in
     let g = c in
     let e = g in
     let b = e in
-    third-wrong _ _ b.requires.0.0 b.requires.0.1 (first-is e) (second_is g) g.if-first-eq0.false
+    third-wrong _ _ b.requires.0.0 b.requires.0.1 (first-is) (second_is g) g.if-first-eq0.false
     (λ k. c.if-class_at-ne-GREATER.true (c.class_at-2.ensures ∙ k))
 
 pub overflow_mul-result : goal.overflow_mul-result
@@ -103,8 +104,9 @@ overflow_add-result-2 c =
 
 pub returns : goal.returns
 returns c =
+    let first-is : class_at c.args.text.now (c.args.at + 1) ≡ 1 = sym c.class_at.ensures ∙ c.if-class_at-ne-DIGIT.false in
     let g = c in
     let e = g in
     let b = e in
-    long _ _ b.requires.0.0 b.requires.0.1 (first-is e) (second_is g) g.if-first-eq0.false
+    long _ _ b.requires.0.0 b.requires.0.1 (first-is) (second_is g) g.if-first-eq0.false
     (sym c.class_at-2.ensures ∙ c.if-class_at-ne-GREATER.false)

@@ -4,7 +4,7 @@ use borrow.Author.Rules.{rules}
 use Rattle.grammar.proofs.opened.Goals as goal
 
 pub returns-in-Named : goal.returns-in-Named
-returns-in-Named c = rw c.opening-1.given.1
+returns-in-Named c = rw c.in-Named.is
 
 pub returns-in-Wrong : goal.returns-in-Wrong
-returns-in-Wrong c = rw c.opening-in-Wrong-1.given.1
+returns-in-Wrong c = rw c.in-Wrong.is

@@ -28,16 +28,16 @@ pub loop-numbers-init : goal.loop-numbers-init
 loop-numbers-init c = let q = c.requires.0 in reached-first q.0 q.1 refl q.2
 
 pub class_at-requires : goal.class_at-requires
-class_at-requires c κs = c.requires.1
+class_at-requires c = c.requires.1
 
 pub read_tag-requires : goal.read_tag-requires
-read_tag-requires c κs =
+read_tag-requires c =
     let l = c.loop-numbers in
     let k = less-at _ l.next (sym c.class_at.ensures ∙ c.loop-numbers-test.true) in
     ((k.0, k.1, l.invariant.numbered), c.requires.1)
 
 pub returns-in-Wrong : goal.returns-in-Wrong
-returns-in-Wrong c = (told _ (Found.At c.place-1.given.0.0) _ (reached-stuck c.loop-numbers.invariant (rw c.place-1.given.1 at c.read_tag.ensures)), tt)
+returns-in-Wrong c = (told _ (Found.At c.in-Wrong.place) _ (reached-stuck c.loop-numbers.invariant (rw c.in-Wrong.is at c.read_tag.ensures)), tt)
 
 pub bounds-nodes-count : goal.bounds-nodes-count
 bounds-nodes-count c = count_room c.loop.invariant
@@ -52,7 +52,7 @@ pub overflow_add-depth : goal.overflow_add-depth
 overflow_add-depth c = let k = c.loop.invariant.numbered.deep in omega arith
 
 pub skip-next-requires : goal.skip-next-requires
-skip-next-requires c κs = ((named c).to, c.requires.1)
+skip-next-requires c = ((named c).to, c.requires.1)
 
 pub loop-numbers-smaller-in-Opens : goal.loop-numbers-smaller-in-Opens
 loop-numbers-smaller-in-Opens c = let n = named c in let k = c.skip-next.ensures in omega (arith, n.from, n.to, k.from, k.to)
@@ -70,7 +70,7 @@ pub overflow_sub-depth : goal.overflow_sub-depth
 overflow_sub-depth c = pos_of_ne-zero (closes c).some
 
 pub skip-next-requires-in-Closes : goal.skip-next-requires-in-Closes
-skip-next-requires-in-Closes c κs = ((closes c).shut.to, c.requires.1)
+skip-next-requires-in-Closes c = ((closes c).shut.to, c.requires.1)
 
 pub loop-numbers-smaller : goal.loop-numbers-smaller
 loop-numbers-smaller c = let n = (closes c).shut in let k = c.skip-next-in-Closes.ensures in omega (arith, n.from, n.to, k.from, k.to)

@@ -15,7 +15,7 @@ pub returns-then-depth-eq0 : goal.returns-then-depth-eq0
 returns-then-depth-eq0 c = closes-nothing _ _ _ _ (slash-at _ _ c.requires.0.1 (sym c.class_at.ensures ∙ c.if-class_at-ne-SLASH.false)) c.if-depth-eq0.true
 
 pub close_tag-requires : goal.close_tag-requires
-close_tag-requires c κs =
+close_tag-requires c =
     let q = c in
     let p = pos_of_ne-zero c.if2.false in
     (omega (arith, q.requires.0.0), (λ l. slash-at _ _ q.requires.0.1 (sym c.class-at.ensures ∙ c.if1.false)), q.requires.0.2.small _ (omega arith))

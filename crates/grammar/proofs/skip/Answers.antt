@@ -18,7 +18,7 @@ pub loop-next-init : goal.loop-next-init
 loop-next-init c = (search rules, search rules, λ stack. here, λ i l h. absurd (omega arith), refl)
 
 pub class_in-requires : goal.class_in-requires
-class_in-requires c κs = c.requires.1
+class_in-requires c = c.requires.1
 
 pub returns-then-class_in-ne-SPACE : goal.returns-then-class_in-ne-SPACE
 returns-then-class_in-ne-SPACE c =

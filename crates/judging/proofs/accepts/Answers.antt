@@ -24,32 +24,29 @@ use Rattle.judging.proofs.accepts.Goals as goal
 both : (w s : List ℕ) (r : Answer) → r ≡ judged w s → (r ≡ judged w s) × Demand2 w s r
 both w s r e = (e, rw e (judged-right w s))
 
-module _ (c : tie.After-known-told2) where
-  abbrev w : List ℕ
-  w = c.before.before.before.before.before.before.before.args.automaton.now
-
-  abbrev h : Header
-  h = c.before.header.given.0.0
-
-  read : parsed w ≡ Parsed.Read h
-  read = sym c.before.before.before.load.ensures.0 ∙ c.before.header.given.1
-
-  headed : Headed (automaton_of h (content w)) h c.before.before.before.load.new.1.0
-  headed = file-headed w h _ read (loaded-read _ h w _ _ c.before.header.given.1 c.before.before.before.load.ensures.1)
-
-refused-is : (c : tie.After-known-told) → Answer.Refused c.before.refusal.given.0.0 ≡ judged c.before.before.before.before.before.before.before.args.automaton.now c.before.before.before.before.before.before.before.args.tree.now
-unfolding judged
-refused-is c = rw (sym c.before.before.before.load.ensures.0 ∙ c.before.refusal.given.1)
-
-judged-is : (c : tie.After-accepts-file) → c.accepts-file.result ≡ judged c.before.before.before.before.before.before.before.before.before.args.automaton.now c.before.before.before.before.before.before.before.before.before.args.tree.now
-unfolding judged
-judged-is c = let told = c.before.before in rw (read told) (c.accepts-file.ensures _ (headed told))
-
 pub accepts_file-requires : goal.accepts_file-requires
-accepts_file-requires c κs = let told = c in file-limits (w told) (h told) (read told)
+unfolding judged
+unfolding judged
+accepts_file-requires c =
+    let w : List ℕ = c.args.automaton.now in
+    let h : Header = c.in-Read.header in
+    let read : parsed w ≡ Parsed.Read h = sym c.load.ensures.0 ∙ c.in-Read.is in
+    let told = c in file-limits (w) (h) (read)
 
 pub returns-in-Refused : goal.returns-in-Refused
-returns-in-Refused c = both _ _ _ (refused-is c)
+unfolding judged
+unfolding judged
+returns-in-Refused c =
+    let refused-is : Answer.Refused c.in-Refused.refusal ≡ judged c.args.automaton.now c.args.tree.now = rw (sym c.load.ensures.0 ∙ c.in-Refused.is) in
+    both _ _ _ (refused-is)
 
 pub returns-in-Read : goal.returns-in-Read
-returns-in-Read c = both _ _ _ (judged-is c)
+unfolding judged
+unfolding judged
+returns-in-Read c =
+    let w : List ℕ = c.args.automaton.now in
+    let h : Header = c.in-Read.header in
+    let read : parsed w ≡ Parsed.Read h = sym c.load.ensures.0 ∙ c.in-Read.is in
+    let headed : Headed (automaton_of h (content w)) h c.load.new.table = file-headed w h _ read (loaded-read _ h w _ _ c.in-Read.is c.load.ensures.1) in
+    let judged-is : c.accepts_file.result ≡ judged c.args.automaton.now c.args.tree.now = let told = c in rw (read) (c.accepts_file.ensures _ (headed)) in
+    both _ _ _ (judged-is)

@@ -14,7 +14,7 @@ pub slice_bounds-judge_nodes-end : goal.slice_bounds-judge_nodes-end
 slice_bounds-judge_nodes-end c = (c.unpack.ensures (omega (arith, c.if1.false))).size
 
 pub judge_nodes-requires : goal.judge_nodes-requires
-judge_nodes-requires c κs = let few = (c.unpack.ensures (omega (arith, c.if1.false))).few in search rules
+judge_nodes-requires c = let few = (c.unpack.ensures (omega (arith, c.if1.false))).few in search rules
 
 pub returns : goal.returns
 returns c =

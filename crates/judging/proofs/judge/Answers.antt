@@ -30,35 +30,31 @@ all w s r e = (e, (rw e (judged-right w s), rw e (growth-right w s)))
 with-sum : {a b : Answer} {g n : ℕ} → a ≡ b → g ≡ n → ◌≡◌ {A = Judged} (record { answer = a; growth = g }) (record { answer = b; growth = n })
 with-sum e f = rw (e, f)
 
-module _ (c : tie.After-known-told2) where
-  abbrev w : List ℕ
-  w = c.before.before.before.before.before.before.before.args.automaton.now
-
-  abbrev h : Header
-  h = c.before.header.given.0.0
-
-  read : parsed w ≡ Parsed.Read h
-  read = sym c.before.before.before.load.ensures.0 ∙ c.before.header.given.1
-
-  headed : Headed (automaton_of h (content w)) h c.before.before.before.load.new.1.0
-  headed = file-headed w h _ read (loaded-read _ h w _ _ c.before.header.given.1 c.before.before.before.load.ensures.1)
-
-refused-is : (c : tie.After-known-told) → ◌≡◌ {A = Judged} (record { answer = Answer.Refused c.before.refusal.given.0.0; growth = 0 }) (judged_with c.before.before.before.before.before.before.before.args.automaton.now c.before.before.before.before.before.before.before.args.tree.now)
-unfolding judged growth_judged
-refused-is c = rw (sym c.before.before.before.load.ensures.0 ∙ c.before.refusal.given.1)
-
-judged-is : (c : tie.After-judge-file) → c.judge-file.result ≡ judged_with c.before.before.before.before.before.before.before.before.before.args.automaton.now c.before.before.before.before.before.before.before.before.before.args.tree.now
-unfolding judged growth_judged
-judged-is c =
-    let told = c.before.before in
-    let both = c.judge-file.ensures _ (headed told) in
-    rw (read told) (with-sum both.0 both.1)
-
 pub judge_file-requires : goal.judge_file-requires
-judge_file-requires c κs = let told = c in file-limits (w told) (h told) (read told)
+unfolding judged growth_judged
+unfolding judged growth_judged
+judge_file-requires c =
+    let w : List ℕ = c.args.automaton.now in
+    let h : Header = c.in-Read.header in
+    let read : parsed w ≡ Parsed.Read h = sym c.load.ensures.0 ∙ c.in-Read.is in
+    let told = c in file-limits (w) (h) (read)
 
 pub returns-in-Refused : goal.returns-in-Refused
-returns-in-Refused c = all _ _ _ (refused-is c)
+unfolding judged growth_judged
+unfolding judged growth_judged
+returns-in-Refused c =
+    let refused-is : ◌≡◌ {A = Judged} (record { answer = Answer.Refused c.in-Refused.refusal; growth = 0 }) (judged_with c.args.automaton.now c.args.tree.now) = rw (sym c.load.ensures.0 ∙ c.in-Refused.is) in
+    all _ _ _ (refused-is)
 
 pub returns-in-Read : goal.returns-in-Read
-returns-in-Read c = all _ _ _ (judged-is c)
+unfolding judged growth_judged
+unfolding judged growth_judged
+returns-in-Read c =
+    let w : List ℕ = c.args.automaton.now in
+    let h : Header = c.in-Read.header in
+    let read : parsed w ≡ Parsed.Read h = sym c.load.ensures.0 ∙ c.in-Read.is in
+    let headed : Headed (automaton_of h (content w)) h c.load.new.table = file-headed w h _ read (loaded-read _ h w _ _ c.in-Read.is c.load.ensures.1) in
+    let judged-is : c.judge_file.result ≡ judged_with c.args.automaton.now c.args.tree.now = let told = c in
+        let both = c.judge_file.ensures _ (headed) in
+        rw (read) (with-sum both.0 both.1) in
+    all _ _ _ (judged-is)

@@ -11,14 +11,14 @@ pub returns-in-Accepted : goal.returns-in-Accepted
 returns-in-Accepted c =
     λ A k h.
     let told = c.judge_nodes-weighed.ensures A k (kept-cache A _ _ _ _ _ c.begin.ensures h) in
-    let weighs = rw c.enum_told-1.given.1 at told.1 in
+    let weighs = rw c.in-Accepted.is at told.1 in
     (kept-cache A _ _ _ _ _ c.end.ensures told.0, ((weighs.0, weighs.1, weighs.2), λ e. weighs))
 
 pub returns-in-Other : goal.returns-in-Other
 returns-in-Other c =
     λ A k h.
     let told = c.judge_nodes-weighed.ensures A k (kept-cache A _ _ _ _ _ c.begin.ensures h) in
-    let weighs = rw c.enum_told-in-Other-1.given.1 at told.1 in
+    let weighs = rw c.in-Other.is at told.1 in
     (kept-cache A _ _ _ _ _ c.end-in-Other.ensures told.0, ((weighs.0, weighs.1, weighs.2), λ e. weighs))
 
 pub returns-in-Unknown : goal.returns-in-Unknown

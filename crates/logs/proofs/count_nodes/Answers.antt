@@ -7,17 +7,17 @@ use borrow.Author.Rules.{rules}
 use Rattle.logs.proofs.count_nodes.Goals as goal
 
 pub returns-in-Refused : goal.returns-in-Refused
-returns-in-Refused c = λ held. tree-refused held.automaton held.tree _ _ _ (sym c.logs_check.ensures ∙ c.refusal-1.given.1)
+returns-in-Refused c = λ held. tree-refused held.automaton held.tree _ _ _ (sym c.logs_check.ensures ∙ c.in-Refused.is)
 
 pub run_prefix-one-requires : goal.run_prefix-one-requires
-run_prefix-one-requires c κs = let held = c.requires in countable held _ _ _ _ (c.link.ensures _ (tree-stands held))
+run_prefix-one-requires c = let held = c.requires in countable held _ _ _ _ (c.link.ensures _ (tree-stands held))
 
 pub run_prefix-two-requires : goal.run_prefix-two-requires
-run_prefix-two-requires c κs = let held = c.requires in countable held _ _ _ _ (c.link.ensures _ (tree-stands held))
+run_prefix-two-requires c = let held = c.requires in countable held _ _ _ _ (c.link.ensures _ (tree-stands held))
 
 pub returns : goal.returns
 returns c =
     λ held.
     let tables = countable held _ _ _ _ (c.link.ensures _ (tree-stands held)) in
-    tree-counted held.automaton held.tree _ _ (sym c.logs_check.ensures ∙ c.enum_told-1.given.1) _ _
+    tree-counted held.automaton held.tree _ _ (sym c.logs_check.ensures ∙ c.in_default.is) _ _
     (c.run_prefix-one.ensures tables) (c.run_prefix-two.ensures tables)

@@ -5,7 +5,7 @@ use borrow.Author.Rules.{rules}
 use Rattle.logs.proofs.numbers.Goals as goal
 
 pub returns-in-Counted : goal.returns-in-Counted
-returns-in-Counted c = rw c.compared-1.given.1 refl
+returns-in-Counted c = rw c.in-Counted.is refl
 
 pub returns-in-Refused : goal.returns-in-Refused
-returns-in-Refused c = rw c.compared-in-Refused-1.given.1 refl
+returns-in-Refused c = rw c.in-Refused.is refl

@@ -4,4 +4,4 @@ use borrow.Author.Rules.{rules}
 use Rattle.markup.proofs.refused_by.Goals as goal
 
 pub returns-in-Refused : goal.returns-in-Refused
-returns-in-Refused c = rw c.check-1.given.1
+returns-in-Refused c = rw c.in-Refused.is

@@ -11,29 +11,28 @@ use Rattle.markup.specs.Checks.{text_tree, tag_check}
 use Rattle.markup.proofs.Checked.{zero-tag, nodes-passed, large-tree, small-tree}
 use Rattle.markup.proofs.tree_check.Goals as goal
 
-both-are : (c : tie.After-enum-told) →
-    (tag_check c.before.before.before.before.before.before.before.args.signature c.before.before.before.before.before.before.before.args.text.now ≡ Passed) × (height_check (text_tree c.before.before.before.before.before.before.before.args.text.now) ≡ Passed)
-both-are c =
-    let q = c.before.before.before.before.before.before.before in
-    nodes-passed q.args.signature q.args.text.now q.requires.0 q.requires.1 (sym c.before.before.before.before.is-branch.ensures ∙ c.before.before.before.if1.false)
-    (rw (← q.requires.2) (sym c.before.before.check.ensures ∙ c.enum_told.given.1))
-
 pub returns-then-is_branch : goal.returns-then-is_branch
 returns-then-is_branch c = rw (zero-tag c.args.signature c.args.text.now (sym c.is_branch.ensures ∙ c.if-is_branch.true)) c.refused.ensures
 
 pub refused_tree-requires : goal.refused_tree-requires
-refused_tree-requires c κs =
+refused_tree-requires c =
     let q = c in
     let n = q.requires.2 in
-    ((q.requires.0, q.requires.1, sym c.is_branch.ensures ∙ c.if-is_branch.false), (ap length n, rw (← n) (sym c.check.ensures ∙ c.refusal-1.given.1)))
+    ((q.requires.0, q.requires.1, sym c.is_branch.ensures ∙ c.if-is_branch.false), (ap length n, rw (← n) (sym c.check.ensures ∙ c.in-Refused.is)))
 
 pub returns-then-nodes-gt4096 : goal.returns-then-nodes-gt4096
 returns-then-nodes-gt4096 c =
+    let both-are : (tag_check c.args.signature c.args.text.now ≡ Passed) × (height_check (text_tree c.args.text.now) ≡ Passed) = let q = c in
+        nodes-passed q.args.signature q.args.text.now q.requires.0 q.requires.1 (sym c.is_branch.ensures ∙ c.if-is_branch.false)
+        (rw (← q.requires.2) (sym c.check.ensures ∙ c.in-Passed.is)) in
     let q = c in
-    c.refused-then-nodes-gt4096.ensures ∙ sym (large-tree _ _ q.requires.1 (both-are c).0 (rw (← q.requires.2) c.if-nodes-gt4096.true))
+    c.refused-then-nodes-gt4096.ensures ∙ sym (large-tree _ _ q.requires.1 (both-are).0 (rw (← q.requires.2) c.if-nodes-gt4096.true))
 
 pub returns-else-nodes-gt4096 : goal.returns-else-nodes-gt4096
 returns-else-nodes-gt4096 c =
+    let both-are : (tag_check c.args.signature c.args.text.now ≡ Passed) × (height_check (text_tree c.args.text.now) ≡ Passed) = let q = c in
+        nodes-passed q.args.signature q.args.text.now q.requires.0 q.requires.1 (sym c.is_branch.ensures ∙ c.if-is_branch.false)
+        (rw (← q.requires.2) (sym c.check.ensures ∙ c.in-Passed.is)) in
     let q = c in
-    let b = both-are c in
+    let b = both-are in
     sym (small-tree _ _ q.requires.1 b.0 (omega (arith, ap length q.requires.2, c.if-nodes-gt4096.false)) ∙ b.1)

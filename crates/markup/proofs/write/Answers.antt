@@ -16,14 +16,14 @@ both : (w s before : List ℕ) (o : Filled) → o ≡ markup_of w s before → (
 both w s before o e = (e, rw e (markup-right w s before))
 
 pub write_text-requires : goal.write_text-requires
-write_text-requires c κs = file-symbols _ _ (sym c.read.ensures.0 ∙ c.header-1.given.1)
+write_text-requires c = file-symbols _ _ (sym c.read.ensures.0 ∙ c.in-Read.is)
 
 pub returns-in-Refused : goal.returns-in-Refused
 returns-in-Refused c =
-    let read = sym c.read.ensures.0 ∙ c.refusal-1.given.1 in
+    let read = sym c.read.ensures.0 ∙ c.in-Refused.is in
     both _ _ _ _ (sym (refused-is _ _ _ _ read))
 
 pub returns-in-Read : goal.returns-in-Read
 returns-in-Read c =
-    let read = sym c.read.ensures.0 ∙ c.header-1.given.1 in
+    let read = sym c.read.ensures.0 ∙ c.in-Read.is in
     both _ _ _ _ (c.write_text.ensures ∙ sym (markup-is _ _ _ _ read))

@@ -19,46 +19,50 @@ use Rattle.markup.specs.Written.{text_file, markup_for}
 use Rattle.markup.proofs.Checked.{tree-few, tree-refused, room-decides, long-is, file-is}
 use Rattle.markup.proofs.write_nodes.Goals as goal
 
-checks-are : (c : tie.After-enum-told) →
-    (tag_check c.before.before.before.before.before.before.args.signature c.before.before.before.before.before.before.args.text.now ≡ Passed) × (tree_check c.before.before.before.before.before.before.args.text.now ≡ Passed)
-checks-are c = both-passed _ _ (sym c.before.before.tree-check.ensures ∙ c.enum_told.given.1)
-
-few-are : (c : tie.After-enum-told) → length c.before.before.before.before.before.before.args.nodes.now ≤ 4096
-few-are c = let q = c.before.before.before.before.before.before in rw q.requires.2 (tree-few _ q.requires.1 (checks-are c).1)
-
-room-is : (c : tie.After-enum-told) → let q = c.before.before.before.before.before.before in
-    (x : Check) → x ≡ room_check (512 * blocks_needed (4 + length q.args.nodes.now)) (length q.args.out.now)
-    → markup_for q.args.signature q.args.text.now q.args.out.now ≡ filled_after x (text_file q.args.text.now) q.args.out.now
-room-is c x e =
-    let q = c.before.before.before.before.before.before in
-    let k = checks-are c in
-    let n : length (text_file q.args.text.now) ≡ 512 * blocks_needed (4 + length q.args.nodes.now) = rw q.requires.2 (long-is _ q.requires.1) in
-    room-decides q.args.signature q.args.text.now q.args.out.now q.requires.1 k.0 k.1
-    ∙ ap (λ (c : Check). filled_after c (text_file q.args.text.now) q.args.out.now) (ap (λ (k : ℕ). room_check k (length q.args.out.now)) n ∙ sym e)
-
 pub returns-in-Refused : goal.returns-in-Refused
 returns-in-Refused c =
     let q = c in
-    sym (tree-refused q.args.signature q.args.text.now q.args.out.now q.requires.1 _ (sym c.tree_check.ensures ∙ c.refusal-1.given.1))
+    sym (tree-refused q.args.signature q.args.text.now q.args.out.now q.requires.1 _ (sym c.tree_check.ensures ∙ c.in-Refused.is))
 
 pub room_check-requires : goal.room_check-requires
-room_check-requires c κs = let h = few-are c in omega arith
+room_check-requires c =
+    let checks-are : (tag_check c.args.signature c.args.text.now ≡ Passed) × (tree_check c.args.text.now ≡ Passed) = both-passed _ _ (sym c.tree_check.ensures ∙ c.in_default.is) in
+    let few-are : length c.args.nodes.now ≤ 4096 = let q = c in rw q.requires.2 (tree-few _ q.requires.1 (checks-are).1) in
+    let h = few-are in omega arith
 
 pub returns-in-Refused-room_check : goal.returns-in-Refused-room_check
 returns-in-Refused-room_check c =
+    let checks-are : (tag_check c.args.signature c.args.text.now ≡ Passed) × (tree_check c.args.text.now ≡ Passed) = both-passed _ _ (sym c.tree_check.ensures ∙ c.in_default.is) in
+    let room-is : let q = c in
+        (x : Check) → x ≡ room_check (512 * blocks_needed (4 + length q.args.nodes.now)) (length q.args.out.now)
+        → markup_for q.args.signature q.args.text.now q.args.out.now ≡ filled_after x (text_file q.args.text.now) q.args.out.now = λ x e. let q = c in
+        let k = checks-are in
+        let n : length (text_file q.args.text.now) ≡ 512 * blocks_needed (4 + length q.args.nodes.now) = rw q.requires.2 (long-is _ q.requires.1) in
+        room-decides q.args.signature q.args.text.now q.args.out.now q.requires.1 k.0 k.1
+        ∙ ap (λ (c : Check). filled_after c (text_file q.args.text.now) q.args.out.now) (ap (λ (k : ℕ). room_check k (length q.args.out.now)) n ∙ sym e) in
     let d = c in
-    sym (room-is d (Refused _) (sym c.refusal-in-Refused-room_check-1.given.1 ∙ c.room_check.ensures))
+    sym (room-is (Refused _) (sym c.in-Refused-room_check.is ∙ c.room_check.ensures))
 
 pub write_tree-requires : goal.write_tree-requires
-write_tree-requires c κs =
+write_tree-requires c =
+    let checks-are : (tag_check c.args.signature c.args.text.now ≡ Passed) × (tree_check c.args.text.now ≡ Passed) = both-passed _ _ (sym c.tree_check.ensures ∙ c.in_default.is) in
+    let few-are : length c.args.nodes.now ≤ 4096 = let q = c in rw q.requires.2 (tree-few _ q.requires.1 (checks-are).1) in
     let d = c in
     let q = d in
-    (few-are d, room-passed _ (length q.args.out.now) (sym c.room_check.ensures ∙ c.enum_told-in_default-room_check-1.given.1))
+    (few-are, room-passed _ (length q.args.out.now) (sym c.room_check.ensures ∙ c.in_default-room_check.is))
 
 pub returns : goal.returns
 returns c =
+    let checks-are : (tag_check c.args.signature c.args.text.now ≡ Passed) × (tree_check c.args.text.now ≡ Passed) = both-passed _ _ (sym c.tree_check.ensures ∙ c.in_default.is) in
+    let room-is : let q = c in
+        (x : Check) → x ≡ room_check (512 * blocks_needed (4 + length q.args.nodes.now)) (length q.args.out.now)
+        → markup_for q.args.signature q.args.text.now q.args.out.now ≡ filled_after x (text_file q.args.text.now) q.args.out.now = λ x e. let q = c in
+        let k = checks-are in
+        let n : length (text_file q.args.text.now) ≡ 512 * blocks_needed (4 + length q.args.nodes.now) = rw q.requires.2 (long-is _ q.requires.1) in
+        room-decides q.args.signature q.args.text.now q.args.out.now q.requires.1 k.0 k.1
+        ∙ ap (λ (c : Check). filled_after c (text_file q.args.text.now) q.args.out.now) (ap (λ (k : ℕ). room_check k (length q.args.out.now)) n ∙ sym e) in
     let d = c in
     let q = d in
     let e = c.write_tree.ensures in
     let n : file_of (payload_of q.args.nodes.now) ≡ text_file q.args.text.now = file-is _ _ q.requires.1 q.requires.2 in
-    told _ _ (text_file q.args.text.now) q.args.out.now (rw n at e.0) (rw n at e.1) ∙ sym (room-is d Passed (sym c.enum_told-in_default-room_check-1.given.1 ∙ c.room_check.ensures))
+    told _ _ (text_file q.args.text.now) q.args.out.now (rw n at e.0) (rw n at e.1) ∙ sym (room-is Passed (sym c.in_default-room_check.is ∙ c.room_check.ensures))

@@ -10,7 +10,7 @@ use Rattle.algorithms.proofs.Grown.{leaf-sum, node-sum}
 use Rattle.membership.proofs.close_tree.Goals as goal
 
 pub close_leaf-requires : goal.close_leaf-requires
-close_leaf-requires c κs = let q = c.requires in (q.2, q.3 _)
+close_leaf-requires c = let q = c.requires in (q.2, q.3 _)
 
 pub returns-then-not-is_branch : goal.returns-then-not-is_branch
 unfolding loops
@@ -20,13 +20,13 @@ returns-then-not-is_branch c =
     rw (leaf-here (sym c.is_branch.ensures ∙ not-true _ c.if-not-is_branch.true) h) (closed.0, leaf-sum A _ _ closed.1)
 
 pub part_at-left-requires : goal.part_at-left-requires
-part_at-left-requires c κs = let q = c.requires in (q.2, q.1, omega arith, q.3)
+part_at-left-requires c = let q = c.requires in (q.2, q.1, omega arith, q.3)
 
 pub part_at-right-requires : goal.part_at-right-requires
-part_at-right-requires c κs = let q = c.requires in (q.2, q.1, c.part_at-left.ensures.1, q.3)
+part_at-right-requires c = let q = c.requires in (q.2, q.1, c.part_at-left.ensures.1, q.3)
 
 pub close_node-root-requires : goal.close_node-root-requires
-close_node-root-requires c κs = let q = c.requires in (q.2, q.3 _)
+close_node-root-requires c = let q = c.requires in (q.2, q.3 _)
 
 pub overflow_add-result : goal.overflow_add-result
 overflow_add-result c =

@@ -24,63 +24,64 @@ use Rattle.membership.proofs.Laws.{front-is, judged-refused, judged-nodes, growt
 use Rattle.nodes.proofs.Signatures.{shaped-over, below_at, written_below}
 use Rattle.membership.proofs.judge_file.Goals as goal
 
-module _ (c : tie.After-known-told2) where
-  abbrev h : Header
-  h = c.before.before.before.before.before.before.args.header
-
-  abbrev s : List ℕ
-  s = c.before.before.before.before.before.before.args.file.now
-
-  abbrev k : ℕ
-  k = c.before.k.given.0.0
-
-  abbrev signature : Signature
-  signature = record { symbols = h.symbols; branches = h.branches }
-
-  read_is : read_tree signature s ≡ ParsedTree.Nodes k
-  read_is = sym c.before.before.before.read-tree.ensures.0 ∙ c.before.k.given.1
-
-  read : TreeRead signature s k
-  read = tree-read signature s k read_is
-
-  -- the part of the buffer that is lent on has the file's nodes
-  nodes_are : take k c.before.before.before.read-tree.new.1.1.0 ≡ nodes_of k (content s)
-  nodes_are = front-is signature s k _ _ _ c.before.k.given.1 c.before.before.before.read-tree.ensures.1 read
-
-  -- each of its symbols is one of the signature's
-  symbols-below : (i : ℕ) → i < length (nodes_of k (content s)) → get_or (nodes_of k (content s)) i 0 < h.symbols
-  symbols-below = below_at h.symbols (nodes_of k (content s)) (rw read.tree.text (shaped-over signature _ read.tree.over).1)
-
-weighed-is : (c : tie.After-weigh) (A : Automaton) → Headed A (h c.before.before) c.before.before.before.before.before.before.before.before.args.table.now →
-    let told = c.before.before in
-    let t = tree_of (h told).branches (nodes_of (k told) (content (s told))) in
-    (c.weigh.result.accepted ≡ accepts? A t) × (c.weigh.result.growth ≡ growths A Place.Root t)
-weighed-is c A r =
-    let told = c.before.before in
-    c.weigh.ensures A r (rw (nodes_are told) (symbols-below told)) (tree_of (h told).branches (nodes_of (k told) (content (s told))))
-    (rw (nodes_are told) (read told).stands)
-
 pub slice_bounds-nodes-end : goal.slice_bounds-nodes-end
-slice_bounds-nodes-end c = let e = ap length (nodes_are c) ∙ (read c).size in omega (arith, length-take (k c) c.read_tree.new.1.1.0, e)
+slice_bounds-nodes-end c =
+    let h : Header = c.args.header in
+    let s : List ℕ = c.args.file.now in
+    let k : ℕ = c.in-Nodes.k in
+    let signature : Signature = record { symbols = h.symbols; branches = h.branches } in
+    let read_is : read_tree signature s ≡ ParsedTree.Nodes k = sym c.read_tree.ensures.0 ∙ c.in-Nodes.is in
+    let read : TreeRead signature s k = tree-read signature s k read_is in
+    let nodes_are : take k c.read_tree.new.nodes ≡ nodes_of k (content s) = front-is signature s k _ _ _ c.in-Nodes.is c.read_tree.ensures.1 read in
+    let e = ap length (nodes_are) ∙ (read).size in omega (arith, length-take (k) c.read_tree.new.nodes, e)
 
 pub slice_bounds-weigh-end : goal.slice_bounds-weigh-end
-slice_bounds-weigh-end c = rw (nodes_are c) (sym (read c).size)
+slice_bounds-weigh-end c =
+    let h : Header = c.args.header in
+    let s : List ℕ = c.args.file.now in
+    let k : ℕ = c.in-Nodes.k in
+    let signature : Signature = record { symbols = h.symbols; branches = h.branches } in
+    let read_is : read_tree signature s ≡ ParsedTree.Nodes k = sym c.read_tree.ensures.0 ∙ c.in-Nodes.is in
+    let read : TreeRead signature s k = tree-read signature s k read_is in
+    let nodes_are : take k c.read_tree.new.nodes ≡ nodes_of k (content s) = front-is signature s k _ _ _ c.in-Nodes.is c.read_tree.ensures.1 read in
+    rw (nodes_are) (sym (read).size)
 
 pub weigh-weighed-requires : goal.weigh-weighed-requires
-weigh-weighed-requires c κs =
+weigh-weighed-requires c =
+    let h : Header = c.args.header in
+    let s : List ℕ = c.args.file.now in
+    let k : ℕ = c.in-Nodes.k in
+    let signature : Signature = record { symbols = h.symbols; branches = h.branches } in
+    let read_is : read_tree signature s ≡ ParsedTree.Nodes k = sym c.read_tree.ensures.0 ∙ c.in-Nodes.is in
+    let read : TreeRead signature s k = tree-read signature s k read_is in
+    let nodes_are : take k c.read_tree.new.nodes ≡ nodes_of k (content s) = front-is signature s k _ _ _ c.in-Nodes.is c.read_tree.ensures.1 read in
     let limits = c.requires in
-    let r = read c in
-    rw (nodes_are c) (omega (arith, r.size, r.some), omega (arith, r.size, r.most), limits, written_below _ _ _ limits.1 r.tree)
+    let r = read in
+    rw (nodes_are) (omega (arith, r.size, r.some), omega (arith, r.size, r.most), limits, written_below _ _ _ limits.1 r.tree)
 
 pub returns-in-Refused : goal.returns-in-Refused
 returns-in-Refused c =
     λ A r.
-    let refused = sym c.read_tree.ensures.0 ∙ c.refusal-1.given.1 in
+    let refused = sym c.read_tree.ensures.0 ∙ c.in-Refused.is in
     (judged-refused A _ _ r _ _ refused, growth-refused A _ _ r _ _ refused)
 
 pub returns-in-Nodes : goal.returns-in-Nodes
 returns-in-Nodes c =
+    let h : Header = c.args.header in
+    let s : List ℕ = c.args.file.now in
+    let k : ℕ = c.in-Nodes.k in
+    let signature : Signature = record { symbols = h.symbols; branches = h.branches } in
+    let read_is : read_tree signature s ≡ ParsedTree.Nodes k = sym c.read_tree.ensures.0 ∙ c.in-Nodes.is in
+    let read : TreeRead signature s k = tree-read signature s k read_is in
+    let nodes_are : take k c.read_tree.new.nodes ≡ nodes_of k (content s) = front-is signature s k _ _ _ c.in-Nodes.is c.read_tree.ensures.1 read in
+    let symbols-below : (i : ℕ) → i < length (nodes_of k (content s)) → get_or (nodes_of k (content s)) i 0 < h.symbols = below_at h.symbols (nodes_of k (content s)) (rw read.tree.text (shaped-over signature _ read.tree.over).1) in
+    let weighed-is : (A : Automaton) → Headed A (h) c.args.table.now →
+        let told = c in
+        let t = tree_of (h).branches (nodes_of (k) (content (s))) in
+        (c.weigh-weighed.result.accepted ≡ accepts? A t) × (c.weigh-weighed.result.growth ≡ growths A Place.Root t) = λ A r. let told = c in
+        c.weigh-weighed.ensures A r (rw (nodes_are) (symbols-below)) (tree_of (h).branches (nodes_of (k) (content (s))))
+        (rw (nodes_are) (read).stands) in
     λ A r.
-    let is = weighed-is c A r in
+    let is = weighed-is A r in
     let told = c in
-    (c.answer_of.ensures ∙ judged-nodes A _ _ r _ _ _ (read_is told) is.0, growth-nodes A _ _ r _ _ _ (read_is told) is.1)
+    (c.answer_of.ensures ∙ judged-nodes A _ _ r _ _ _ (read_is) is.0, growth-nodes A _ _ r _ _ _ (read_is) is.1)

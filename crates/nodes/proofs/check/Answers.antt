@@ -11,29 +11,29 @@ use Rattle.nodes.proofs.Scanning.{scan-symbols, scan-shape}
 use Rattle.nodes.proofs.Waiting.{scan-height}
 use Rattle.nodes.proofs.check.Goals as goal
 
-symbols-said : (c : tie.After-symbols-check) →
-    c.symbols-check.result ≡ symbols_check c.before.before.before.args.signature c.before.before.before.args.symbols.now
-symbols-said c = c.symbols-check.ensures ∙ ap symbols_by c.before.scan-nodes.ensures ∙ scan-symbols _ _
-
-shape-said : (c : tie.After-shape-check) →
-    c.shape-check.result
-    ≡ shape_check c.before.before.before.before.before.before.args.signature.branches
-    c.before.before.before.before.before.before.args.symbols.now
-shape-said c = c.shape-check.ensures ∙ ap shape_by c.before.before.before.before.scan-nodes.ensures ∙ scan-shape _ _
-
 pub returns-in-Refused : goal.returns-in-Refused
 unfolding nodes_check
-returns-in-Refused c = then-stop _ _ (sym c.refusal-1.given.1 ∙ symbols-said c)
+returns-in-Refused c =
+    let symbols-said : c.symbols_check.result ≡ symbols_check c.args.signature c.args.symbols.now = c.symbols_check.ensures ∙ ap symbols_by c.scan_nodes-scan.ensures ∙ scan-symbols _ _ in
+    then-stop _ _ (sym c.in-Refused.is ∙ symbols-said)
 
 pub returns-in-Refused-shape_check : goal.returns-in-Refused-shape_check
 unfolding nodes_check
 returns-in-Refused-shape_check c =
-    let symbols = sym (symbols-said c) ∙ c.enum_told-1.given.1 in
-    rw symbols (then-stop _ _ (sym c.refusal-in-Refused-shape_check-1.given.1 ∙ shape-said c))
+    let symbols-said : c.symbols_check.result ≡ symbols_check c.args.signature c.args.symbols.now = c.symbols_check.ensures ∙ ap symbols_by c.scan_nodes-scan.ensures ∙ scan-symbols _ _ in
+    let shape-said : c.shape_check.result
+        ≡ shape_check c.args.signature.branches
+        c.args.symbols.now = c.shape_check.ensures ∙ ap shape_by c.scan_nodes-scan.ensures ∙ scan-shape _ _ in
+    let symbols = sym (symbols-said) ∙ c.in_default.is in
+    rw symbols (then-stop _ _ (sym c.in-Refused-shape_check.is ∙ shape-said))
 
 pub returns : goal.returns
 unfolding nodes_check
 returns c =
-    let symbols = sym (symbols-said c) ∙ c.enum_told-1.given.1 in
-    let shape = sym (shape-said c) ∙ c.enum_told-in_default-shape_check-1.given.1 in
+    let symbols-said : c.symbols_check.result ≡ symbols_check c.args.signature c.args.symbols.now = c.symbols_check.ensures ∙ ap symbols_by c.scan_nodes-scan.ensures ∙ scan-symbols _ _ in
+    let shape-said : c.shape_check.result
+        ≡ shape_check c.args.signature.branches
+        c.args.symbols.now = c.shape_check.ensures ∙ ap shape_by c.scan_nodes-scan.ensures ∙ scan-shape _ _ in
+    let symbols = sym (symbols-said) ∙ c.in_default.is in
+    let shape = sym (shape-said) ∙ c.in_default-shape_check.is in
     rw (symbols, shape) (c.height_check.ensures ∙ ap height_by c.scan_nodes-scan.ensures ∙ scan-height _ _ _ (root _ _ shape))

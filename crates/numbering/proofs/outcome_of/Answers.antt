@@ -8,11 +8,11 @@ use Rattle.numbering.proofs.outcome_of.Goals as goal
 
 pub returns-in-0 : goal.returns-in-0
 unfolding outcome_numbered
-returns-in-0 c = rw c.in-0.keys1
+returns-in-0 c = rw c.in-0.is
 
 pub returns-in-1 : goal.returns-in-1
 unfolding outcome_numbered
-returns-in-1 c = rw c.in-1.keys2
+returns-in-1 c = rw c.in-1.is
 
 pub returns-in_default : goal.returns-in_default
 unfolding outcome_numbered

@@ -5,4 +5,4 @@ use mathlib.Core.Path.{refl}
 use Rattle.numbering.proofs.put_compared.Goals as goal
 
 pub returns-in-Counted : goal.returns-in-Counted
-returns-in-Counted c = rw c.compared-1.given.1 (refl, refl, refl)
+returns-in-Counted c = rw c.in-Counted.is (refl, refl, refl)

@@ -5,4 +5,4 @@ use mathlib.Core.Path.{refl}
 use Rattle.numbering.proofs.put_judgement.Goals as goal
 
 pub returns-in-Files : goal.returns-in-Files
-returns-in-Files c = rw c.judgement-1.given.1 (refl, refl)
+returns-in-Files c = rw c.in-Files.is (refl, refl)

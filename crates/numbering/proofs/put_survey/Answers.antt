@@ -5,10 +5,10 @@ use mathlib.Core.Path.{refl}
 use Rattle.numbering.proofs.put_survey.Goals as goal
 
 pub returns-in-Found : goal.returns-in-Found
-returns-in-Found c = rw c.answer-1.given.1 (refl, refl)
+returns-in-Found c = rw c.in-Found.is (refl, refl)
 
 pub returns-in-Open : goal.returns-in-Open
-returns-in-Open c = rw c.answer-in-Open-1.given.1 (refl, refl)
+returns-in-Open c = rw c.in-Open.is (refl, refl)
 
 pub returns-in-Empty : goal.returns-in-Empty
-returns-in-Empty c = rw c.answer-in-Empty-1.given.1 (refl, refl)
+returns-in-Empty c = rw c.in-Empty.is (refl, refl)

@@ -5,4 +5,4 @@ use mathlib.Core.Path.{refl}
 use Rattle.numbering.proofs.put_written.Goals as goal
 
 pub returns-in-Bytes : goal.returns-in-Bytes
-returns-in-Bytes c = rw c.answer-1.given.1 (refl, refl)
+returns-in-Bytes c = rw c.in-Bytes.is (refl, refl)

@@ -16,27 +16,22 @@ use Rattle.transitions.proofs.Laws.{loaded-read}
 use Rattle.overloops.proofs.Laws.{file-headed}
 use Rattle.overloops.proofs.prepare.Goals as goal
 
-module _ (c : tie.After-known-told2) where
-  abbrev h : Header
-  h = c.before.header.given.0.0
-
-  abbrev s : List ℕ
-  s = c.before.before.before.before.before.before.args.file.now
-
-  read_is : parsed s ≡ Parsed.Read h
-  read_is = sym c.before.before.before.load.ensures.0 ∙ c.before.header.given.1
-
-  headed : Headed (automaton_of h (content s)) h c.before.before.before.load.new.1.0
-  headed = file-headed s h _ read_is (loaded-read _ h s _ _ c.before.header.given.1 c.before.before.before.load.ensures.1)
-
 pub fill_leaves-requires : goal.fill_leaves-requires
-fill_leaves-requires c κs = ((file-limits _ _ (read_is c)).0, c.fill-leaves-arg2.given.0.1)
+fill_leaves-requires c =
+    let h : Header = c.in-Read.header in
+    let s : List ℕ = c.args.file.now in
+    let read_is : parsed s ≡ Parsed.Read h = sym c.load.ensures.0 ∙ c.in-Read.is in
+    ((file-limits _ _ (read_is)).0, c.fill-leaves-arg2.given.0.1)
 
 pub returns-in-Refused : goal.returns-in-Refused
-returns-in-Refused c = let told = rw c.refusal-1.given.1 at c.load.ensures in (told.0, (told.1, refl))
+returns-in-Refused c = let told = rw c.in-Refused.is at c.load.ensures in (told.0, (told.1, refl))
 
 pub returns-in-Read : goal.returns-in-Read
 returns-in-Read c =
+    let h : Header = c.in-Read.header in
+    let s : List ℕ = c.args.file.now in
+    let read_is : parsed s ≡ Parsed.Read h = sym c.load.ensures.0 ∙ c.in-Read.is in
+    let headed : Headed (automaton_of h (content s)) h c.load.new.table = file-headed s h _ read_is (loaded-read _ h s _ _ c.in-Read.is c.load.ensures.1) in
     let told = rw c.header.given.1 at c.load.ensures in
     let read = c in
-    (told.0, (file-limits _ _ (read_is read), record { headed = headed read; leaves_are = c.fill_leaves.ensures _ (headed read).tabled }))
+    (told.0, (file-limits _ _ (read_is), record { headed = headed; leaves_are = c.fill_leaves.ensures _ (headed).tabled }))

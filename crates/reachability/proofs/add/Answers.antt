@@ -10,12 +10,6 @@ use Rattle.reachability.proofs.Words.{or-over}
 use Rattle.reachability.proofs.Growing.{added-past, added_none, added}
 use Rattle.reachability.proofs.add.Goals as goal
 
-all_small : (c : tie.After-slice-known) → bit_or (get_or c.before.args.reached.now c.before.args.node 0) c.before.args.states < 2 ^ 32
-all_small c =
-    let a = c.before.args in
-    let old : get_or a.reached.now a.node 0 < 2 ^ 32 = omega (arith, c.slice-known.given a.node) in
-    or_lt 32 _ a.states old (omega (arith, c.before.ranges.states))
-
 pub returns-then-nodes-node : goal.returns-then-nodes-node
 returns-then-nodes-node c = (omega arith, added-past _ _ _ _ _ c.if-nodes-node.true)
 
@@ -27,14 +21,20 @@ overflow_sub-fresh c = or-over _ _
 
 pub returns-then-before-ne0 : goal.returns-then-before-ne0
 returns-then-before-ne0 c =
+    let all_small : bit_or (get_or c.args.reached.now c.args.node 0) c.args.states < 2 ^ 32 = let a = c.args in
+        let old : get_or a.reached.now a.node 0 < 2 ^ 32 = omega (arith, c.slice_known-1.given a.node) in
+        or_lt 32 _ a.states old (omega (arith, c.ranges.states)) in
     let known = c in
     let start = known in
     let a = start.args in
-    (omega arith, added a.nodes a.node a.states a.reached.now a.fresh.now (omega arith) (omega arith) (omega arith) (all_small known))
+    (omega arith, added a.nodes a.node a.states a.reached.now a.fresh.now (omega arith) (omega arith) (omega arith) (all_small))
 
 pub returns : goal.returns
 returns c =
+    let all_small : bit_or (get_or c.args.reached.now c.args.node 0) c.args.states < 2 ^ 32 = let a = c.args in
+        let old : get_or a.reached.now a.node 0 < 2 ^ 32 = omega (arith, c.slice_known-1.given a.node) in
+        or_lt 32 _ a.states old (omega (arith, c.ranges.states)) in
     let known = c in
     let start = known in
     let a = start.args in
-    (c.push.ensures, added a.nodes a.node a.states a.reached.now a.fresh.now (omega arith) (omega arith) (omega arith) (all_small known))
+    (c.push.ensures, added a.nodes a.node a.states a.reached.now a.fresh.now (omega arith) (omega arith) (omega arith) (all_small))

@@ -9,7 +9,7 @@ use Rattle.reachability.proofs.Meaning.{told}
 use Rattle.reachability.proofs.judge_small.Goals as goal
 
 pub search-requires : goal.search-requires
-search-requires c κs =
+search-requires c =
     let p = c.requires in
     let x = c.link_tree.ensures (not-false _ c.if-not-link_tree.false) in (
       p.0,

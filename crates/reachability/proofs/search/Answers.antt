@@ -39,7 +39,7 @@ pub bounds-reached-0-in-loop-reached : goal.bounds-reached-0-in-loop-reached
 bounds-reached-0-in-loop-reached c = omega (arith, reached-same c, c.requires.0, c.requires.4)
 
 pub pop-popped-requires : goal.pop-popped-requires
-pop-popped-requires c κs = (omega (arith, fresh-same c, c.before.before.before.before.before.before.before.before.before.before.before.before.requires.5), c.loop.invariant.3)
+pop-popped-requires c = (omega (arith, fresh-same c, c.before.before.before.before.before.before.before.before.before.before.before.before.requires.5), c.loop.invariant.3)
 
 pub shape_of-reached-then-node-symbols : goal.shape_of-reached-then-node-symbols
 shape_of-reached-then-node-symbols c = reached-same c
@@ -59,7 +59,7 @@ returns-then-node-symbols c =
     )
 
 pub turn-height-requires : goal.turn-height-requires
-turn-height-requires c κs =
+turn-height-requires c =
     let p = c.before.before.before.before.before.before.before.before.before.before.before.before.before.before.before.before.before.requires in (
       taken-node c,
       p.1,

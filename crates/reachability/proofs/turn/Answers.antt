@@ -9,13 +9,13 @@ use Rattle.reachability.proofs.Turning.{turned}
 use Rattle.reachability.proofs.turn.Goals as goal
 
 pub images-next-requires : goal.images-next-requires
-images-next-requires c κs = omega (arith, c.cell-at.ensures.0, place-small c.place_at-place.result)
+images-next-requires c = omega (arith, c.cell-at.ensures.0, place-small c.place_at-place.result)
 
 pub climb-height-requires : goal.climb-height-requires
-climb-height-requires c κs = (omega arith, omega arith, simp length-set (omega arith), omega arith, omega arith)
+climb-height-requires c = (omega arith, omega arith, simp length-set (omega arith), omega arith, omega arith)
 
 pub descend-height-requires : goal.descend-height-requires
-descend-height-requires c κs =
+descend-height-requires c =
     let climbed = c in
     let start = climbed in
     let a = start.args in
@@ -29,7 +29,7 @@ descend-height-requires c κs =
     )
 
 pub add-requires : goal.add-requires
-add-requires c κs =
+add-requires c =
     let descended = c in
     let climbed = descended in
     let start = climbed in

@@ -14,7 +14,7 @@ returns c =
     let few : c.read_full.result ≤ k.to - k.from =
     omega (arith, c.read_full.ensures.0, c.buffer-1.given.0, length-take (k.to - k.from) (drop k.from k.buffer.now), length-drop k.from k.buffer.now) in (
       omega (arith, c.requires),
-      take_put k.from (k.to - k.from) k.buffer.now c.read_full.new.1.0 (omega (arith, c.requires)),
+      take_put k.from (k.to - k.from) k.buffer.now c.read_full.new.buf (omega (arith, c.requires)),
       read_gave k.input (k.to - k.from) c.read_full.result few,
       omega (arith, c.buffer-1.given.1, c.requires),
     )

@@ -12,24 +12,28 @@ use Rattle.overloops.proofs.Laws.{prepared-ready}
 use Rattle.reporting.proofs.Laws.{reported-refused, reported-read}
 use Rattle.reporting.proofs.report_file.Goals as goal
 
-read_is : (c : tie.After-known-told2) → parsed c.before.before.before.before.before.before.before.args.file.now ≡ Parsed.Read c.before.header.given.0.0
-read_is c = sym c.before.before.before.prepare.ensures.0 ∙ c.before.header.given.1
-
-ready : (c : tie.After-known-told2) → let h = c.before.header.given.0.0 in
-    WithinLimits h
-    × Ready (automaton_of h (content c.before.before.before.before.before.before.before.args.file.now)) h c.before.before.before.prepare.new.1.0 c.before.before.before.prepare.new.1.1.0
-ready c = prepared-ready _ _ _ _ _ _ _ c.before.header.given.1 c.before.before.before.prepare.ensures.1
-
 pub print_head-first-requires : goal.print_head-first-requires
-print_head-first-requires c κs = (ready c).0
+print_head-first-requires c =
+    let ready : let h = c.in-Read.header in
+        WithinLimits h
+        × Ready (automaton_of h (content c.args.file.now)) h c.prepare.new.table c.prepare.new.leaves = prepared-ready _ _ _ _ _ _ _ c.in-Read.is c.prepare.ensures.1 in
+    (ready).0
 
 pub tally_files-tally-requires : goal.tally_files-tally-requires
-tally_files-tally-requires c κs = (ready c).0
+tally_files-tally-requires c =
+    let ready : let h = c.in-Read.header in
+        WithinLimits h
+        × Ready (automaton_of h (content c.args.file.now)) h c.prepare.new.table c.prepare.new.leaves = prepared-ready _ _ _ _ _ _ _ c.in-Read.is c.prepare.ensures.1 in
+    (ready).0
 
 pub returns-in-Refused : goal.returns-in-Refused
-returns-in-Refused c = reported-refused _ _ _ _ (sym c.prepare.ensures.0 ∙ c.refusal-1.given.1) c.print_refused.ensures
+returns-in-Refused c = reported-refused _ _ _ _ (sym c.prepare.ensures.0 ∙ c.in-Refused.is) c.print_refused.ensures
 
 pub returns-in-Read : goal.returns-in-Read
 returns-in-Read c =
+    let read_is : parsed c.args.file.now ≡ Parsed.Read c.in-Read.header = sym c.prepare.ensures.0 ∙ c.in-Read.is in
+    let ready : let h = c.in-Read.header in
+        WithinLimits h
+        × Ready (automaton_of h (content c.args.file.now)) h c.prepare.new.table c.prepare.new.leaves = prepared-ready _ _ _ _ _ _ _ c.in-Read.is c.prepare.ensures.1 in
     let told = c in
-    reported-read _ _ _ _ _ _ _ (read_is told) (c.tally_files-tally.ensures _ (ready told).1.headed) (c.print_head-first.ensures _ (ready told).1) c.print_tally-last.ensures refl
+    reported-read _ _ _ _ _ _ _ (read_is) (c.tally_files-tally.ensures _ (ready).1.headed) (c.print_head-first.ensures _ (ready).1) c.print_tally-last.ensures refl

@@ -69,7 +69,7 @@ pub loop-header-init : goal.loop-header-init
 loop-header-init c = let p = c.requires in (p.1, p.2, omega arith, omega arith, λ A k h. (h, begun _ A))
 
 pub read_part-got-requires : goal.read_part-got-requires
-read_part-got-requires c κs = let v = c.loop-header.invariant in (v.2, omega (arith, v.0))
+read_part-got-requires c = let v = c.loop-header.invariant in (v.2, omega (arith, v.0))
 
 pub overflow_add-all : goal.overflow_add-all
 overflow_add-all c = omega (arith, c.read_part-got.ensures.0)
@@ -81,7 +81,7 @@ pub slice_bounds-judge_part-end-in-loop-header : goal.slice_bounds-judge_part-en
 slice_bounds-judge_part-end-in-loop-header c = sym (length-take-le _ c.read-part.new.1.0 (omega (arith, c.read-part.ensures.0, c.read-part.ensures.3, c.loop.invariant.0)))
 
 pub judge_part-part-requires : goal.judge_part-part-requires
-judge_part-part-requires c κs = c.before.before.before.before.before.before.before.before.before.before.before.before.before.before.requires.0
+judge_part-part-requires c = c.before.before.before.before.before.before.before.before.before.before.before.before.before.before.requires.0
 
 pub overflow_mul-numbers : goal.overflow_mul-numbers
 overflow_mul-numbers c = omega (arith, c.judge_part-part.ensures.0, c.judge_part-part.ensures.1, c.loop.invariant.1)
@@ -130,7 +130,7 @@ returns-then-all-lt65536 c =
     λ A k h. ended _ A _ _ _ _ _ _ _ _ (read c A k h) (judged c A k h).1 c.count_all-tally.ensures _ _ on (omega (arith, c.if-all-lt65536.true)) left cut c.count_rest.ensures
 
 pub move_front-held-requires : goal.move_front-held-requires
-move_front-held-requires c κs = (few c, omega (arith, buffer-size c, all_fit c))
+move_front-held-requires c = (few c, omega (arith, buffer-size c, all_fit c))
 
 pub loop-header-smaller : goal.loop-header-smaller
 loop-header-smaller c =

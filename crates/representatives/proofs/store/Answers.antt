@@ -10,14 +10,10 @@ use Rattle.classes.specs.Classes.{parts_in}
 use Rattle.representatives.proofs.Table.{written}
 use Rattle.representatives.proofs.store.Goals as goal
 
-sizes : (c : tie.Start) → (length c.args.class.left.rows ≡ 24) × (length c.args.class.right.rows ≡ 24)
-sizes c = (search rules, search rules)
-
-bytes : (c : tie.Start) → (c.args.origin.symbol.0 < 256) × (c.args.origin.left.0 < 256) × (c.args.origin.right.0 < 256)
-bytes c = (search rules, search rules, search rules)
-
 pub returns : goal.returns
 returns c =
+    let sizes : (length c.args.class.left.rows ≡ 24) × (length c.args.class.right.rows ≡ 24) = (search rules, search rules) in
+    let bytes : (c.args.origin.symbol.0 < 256) × (c.args.origin.left.0 < 256) × (c.args.origin.right.0 < 256) = (search rules, search rules, search rules) in
     let start = c in
     let a = start.args in
-    written a.row.0 _ _ _ (parts_in a.class) _ _ _ _ (search rules) c.put-origin-arg.given.0.1 (sizes start).0 (sizes start).1 c.put-origin.ensures c.put-rows.ensures c.put_rows-2.ensures (bytes start).0 (bytes start).1 (bytes start).2
+    written a.row.0 _ _ _ (parts_in a.class) _ _ _ _ (search rules) c.put-origin-arg.given.0.1 (sizes).0 (sizes).1 c.put-origin.ensures c.put-rows.ensures c.put_rows-2.ensures (bytes).0 (bytes).1 (bytes).2

@@ -36,22 +36,22 @@ pub returns-in-Accepted : goal.returns-in-Accepted
 returns-in-Accepted c =
     let l = c.loop in
     let p = c in
-    (l.invariant.1, λ A k. ends_found A l.rows l.doubles l.old l.n l.height (l.invariant.4 A k) (search rules) l.invariant.0 l.invariant.1 _ (marked p A k) _ _ (tried p A k) c.origin-1.given.1)
+    (l.invariant.1, λ A k. ends_found A l.rows l.doubles l.old l.n l.height (l.invariant.4 A k) (search rules) l.invariant.0 l.invariant.1 _ (marked p A k) _ _ (tried p A k) c.in-Accepted.is)
 
 pub returns-then-m-gt64 : goal.returns-then-m-gt64
 returns-then-m-gt64 c =
     let l = c.loop in
     let p = c in
-    (tt, λ A k. ends_open A l.rows l.doubles l.old l.n l.height (l.invariant.4 A k) (search rules) l.invariant.0 l.invariant.1 _ (marked p A k) _ _ (tried p A k) c.m-1.given.1 (search rules))
+    (tt, λ A k. ends_open A l.rows l.doubles l.old l.n l.height (l.invariant.4 A k) (search rules) l.invariant.0 l.invariant.1 _ (marked p A k) _ _ (tried p A k) c.in-Kept.is (search rules))
 
 pub returns-then-m-n : goal.returns-then-m-n
 returns-then-m-n c =
     let l = c.loop in
     let p = c in
-    (tt, λ A k. ends-empty A l.rows l.doubles l.old l.n l.height (l.invariant.4 A k) (search rules) l.invariant.0 l.invariant.1 _ (marked p A k) _ _ (tried p A k) c.m-1.given.1 (search rules) (search rules))
+    (tt, λ A k. ends-empty A l.rows l.doubles l.old l.n l.height (l.invariant.4 A k) (search rules) l.invariant.0 l.invariant.1 _ (marked p A k) _ _ (tried p A k) c.in-Kept.is (search rules) (search rules))
 
 pub loop-origin-preserved : goal.loop-origin-preserved
 loop-origin-preserved c =
     let l = c.loop in
     let p = c in
-    (search rules, search rules, search rules, search rules, λ A k. goes_on A l.rows l.doubles l.old l.n l.height (l.invariant.4 A k) (search rules) l.invariant.0 l.invariant.1 _ (marked p A k) _ _ (tried p A k) c.m-1.given.1 (search rules) (search rules))
+    (search rules, search rules, search rules, search rules, λ A k. goes_on A l.rows l.doubles l.old l.n l.height (l.invariant.4 A k) (search rules) l.invariant.0 l.invariant.1 _ (marked p A k) _ _ (tried p A k) c.in-Kept.is (search rules) (search rules))

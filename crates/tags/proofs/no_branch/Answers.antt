@@ -6,4 +6,4 @@ use mathlib.Core.Bool.{not}
 use Rattle.tags.proofs.no_branch.Goals as goal
 
 pub returns-in-Opens : goal.returns-in-Opens
-returns-in-Opens c = rw c.tag-1.given.1 (ap not c.is_branch.ensures)
+returns-in-Opens c = rw c.in-Opens.is (ap not c.is_branch.ensures)

@@ -8,12 +8,12 @@ use Rattle.transitions.proofs.Laws.{unknown-adds}
 use Rattle.transitions.proofs.add_rule_at.Goals as goal
 
 pub returns-in_default : goal.returns-in_default
-returns-in_default c = rw (sym c.rule_at.ensures ∙ c.enum_told-1.given.1) (unknown-adds _)
+returns-in_default c = rw (sym c.rule_at.ensures ∙ c.in_default.is) (unknown-adds _)
 
 pub add_rule-requires : goal.add_rule-requires
-add_rule-requires c κs =
-    let h = rule-in _ _ _ _ (sym c.rule_at.ensures ∙ c.rule-1.given.1) in
+add_rule-requires c =
+    let h = rule-in _ _ _ _ (sym c.rule_at.ensures ∙ c.in-Known.is) in
     (search rules, record { symbol = omega (arith, h.symbol); state = omega (arith, h.state); next = omega (arith, h.next) })
 
 pub returns : goal.returns
-returns c = rw (sym c.rule_at.ensures ∙ c.rule-1.given.1) c.add_rule.ensures
+returns c = rw (sym c.rule_at.ensures ∙ c.in-Known.is) c.add_rule.ensures

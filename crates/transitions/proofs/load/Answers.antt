@@ -11,26 +11,27 @@ use Rattle.automaton.specs.declared.file.Parsed.{Parsed}
 use Rattle.automaton.proofs.Passed.{file-read, contents-are, contents-fit}
 use Rattle.transitions.proofs.load.Goals as goal
 
-read_is : (c : tie.After-known-told2) → parsed c.before.before.before.before.before.before.args.file.now ≡ Parsed.Read c.before.header.given.0.0
-read_is c = sym c.before.before.before.read.ensures.0 ∙ c.before.header.given.1
-
-content-is : (c : tie.After-content-length) → take c.content-length.result c.before.before.before.before.read.new.1.0 ≡ content c.before.before.before.before.before.before.before.args.file.now
-content-is c =
-    contents-are _ _ _ _ c.before.before.header.given.0.0 _ c.before.before.header.given.1 c.before.before.before.before.read.ensures.1 c.content-length.ensures
-
 pub slice_bounds-contents-end : goal.slice_bounds-contents-end
-slice_bounds-contents-end c = contents-fit _ _ _ c.content_length-len.ensures (content-is c)
+slice_bounds-contents-end c =
+    let content-is : take c.content_length-len.result c.read.new.contents ≡ content c.args.file.now = contents-are _ _ _ _ c.in-Read.header _ c.in-Read.is c.read.ensures.1 c.content_length-len.ensures in
+    contents-fit _ _ _ c.content_length-len.ensures (content-is)
 
 pub slice_bounds-compile-end : goal.slice_bounds-compile-end
-slice_bounds-compile-end c = rw (content-is c) c.content_length-len.ensures
+slice_bounds-compile-end c =
+    let content-is : take c.content_length-len.result c.read.new.contents ≡ content c.args.file.now = contents-are _ _ _ _ c.in-Read.header _ c.in-Read.is c.read.ensures.1 c.content_length-len.ensures in
+    rw (content-is) c.content_length-len.ensures
 
 pub compile-requires : goal.compile-requires
-compile-requires c κs = (rw (content-is c) (file-read _ _ (read_is c)).laid_out, c.requires)
+compile-requires c =
+    let read_is : parsed c.args.file.now ≡ Parsed.Read c.in-Read.header = sym c.read.ensures.0 ∙ c.in-Read.is in
+    let content-is : take c.content_length-len.result c.read.new.contents ≡ content c.args.file.now = contents-are _ _ _ _ c.in-Read.header _ c.in-Read.is c.read.ensures.1 c.content_length-len.ensures in
+    (rw (content-is) (file-read _ _ (read_is)).laid_out, c.requires)
 
 pub returns-in-Refused : goal.returns-in-Refused
-returns-in-Refused c = let told = rw c.refusal-1.given.1 at c.read.ensures in (told.0, refl)
+returns-in-Refused c = let told = rw c.in-Refused.is at c.read.ensures in (told.0, refl)
 
 pub returns-in-Read : goal.returns-in-Read
 returns-in-Read c =
-    let told = rw c.header-1.given.1 at c.read.ensures in
-    (told.0, rw (content-is c) at c.compile.ensures)
+    let content-is : take c.content_length-len.result c.read.new.contents ≡ content c.args.file.now = contents-are _ _ _ _ c.in-Read.header _ c.in-Read.is c.read.ensures.1 c.content_length-len.ensures in
+    let told = rw c.in-Read.is at c.read.ensures in
+    (told.0, rw (content-is) at c.compile.ensures)

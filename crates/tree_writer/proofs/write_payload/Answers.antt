@@ -16,7 +16,7 @@ pub loop-i-init : goal.loop-i-init
 loop-i-init c = (search rules, search rules, refl)
 
 pub payload_byte-requires : goal.payload_byte-requires
-payload_byte-requires c κs = (search rules, c.requires.0)
+payload_byte-requires c = (search rules, c.requires.0)
 
 pub loop-i-preserved : goal.loop-i-preserved
 loop-i-preserved c =

@@ -13,7 +13,7 @@ pub overflow_mul-most : goal.overflow_mul-most
 overflow_mul-most c = record { fits = most-low c.requires.0 }
 
 pub follow-requires : goal.follow-requires
-follow-requires c κs =
+follow-requires c =
     let pre = c.requires in
     let held = pre.0 in
     rw c.lowest.ensures.0

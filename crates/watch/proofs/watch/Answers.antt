@@ -28,26 +28,22 @@ use Rattle.watch.proofs.watch.Goals as goal
 both : (w s : List ℕ) (budget : ℕ) (log : List ℕ) (o : Outcome) → o ≡ watch_of w s budget log → (o ≡ watch_of w s budget log) × Promise w s budget log o
 both w s budget log o e = (e, rw e (watch-right w s budget log))
 
-module _ (c : tie.After-known-told2) where
-  abbrev w : List ℕ
-  w = c.before.before.before.before.before.before.before.before.args.automaton.now
-
-  abbrev h : Header
-  h = c.before.header.given.0.0
-
-  read : parsed w ≡ Parsed.Read h
-  read = sym c.before.before.before.load.ensures.0 ∙ c.before.header.given.1
-
-  headed : Headed (automaton_of h (content w)) h c.before.before.before.load.new.1.0
-  headed = file-headed w h _ read (loaded-read _ h w _ _ c.before.header.given.1 c.before.before.before.load.ensures.1)
-
 pub watch_file-requires : goal.watch_file-requires
-watch_file-requires c κs = let told = c in (file-limits (w told) (h told) (read told), (automaton_of (h told) (content (w told)), headed told))
+watch_file-requires c =
+    let w : List ℕ = c.args.automaton.now in
+    let h : Header = c.in-Read.header in
+    let read : parsed w ≡ Parsed.Read h = sym c.load.ensures.0 ∙ c.in-Read.is in
+    let headed : Headed (automaton_of h (content w)) h c.load.new.table = file-headed w h _ read (loaded-read _ h w _ _ c.in-Read.is c.load.ensures.1) in
+    let told = c in (file-limits (w) (h) (read), (automaton_of (h) (content (w)), headed))
 
 pub returns-in-Refused : goal.returns-in-Refused
-returns-in-Refused c = both _ _ _ _ _ (both-refused _ _ _ _ _ (sym c.load.ensures.0 ∙ c.refusal-1.given.1))
+returns-in-Refused c = both _ _ _ _ _ (both-refused _ _ _ _ _ (sym c.load.ensures.0 ∙ c.in-Refused.is))
 
 pub returns-in-Read : goal.returns-in-Read
 returns-in-Read c =
+    let w : List ℕ = c.args.automaton.now in
+    let h : Header = c.in-Read.header in
+    let read : parsed w ≡ Parsed.Read h = sym c.load.ensures.0 ∙ c.in-Read.is in
+    let headed : Headed (automaton_of h (content w)) h c.load.new.table = file-headed w h _ read (loaded-read _ h w _ _ c.in-Read.is c.load.ensures.1) in
     let told = c in
-    both _ _ _ _ _ (c.watch_file.ensures _ (headed told) ∙ sym (both_read (w told) _ _ _ (h told) (read told)))
+    both _ _ _ _ _ (c.watch_file.ensures _ (headed) ∙ sym (both_read (w) _ _ _ (h) (read)))

@@ -20,21 +20,6 @@ use Rattle.determinism.proofs.single_prepared.Reads as single-prepared-reads
 use Rattle.refusal.proofs.refused.Reads as refused-reads
 use Rattle.watch.proofs.watch_check.Goals as goal
 
-module _ (c : tie.After-enum-told) where
-  abbrev header : Header
-  header = c.before.before.before.args.header
-
-  abbrev table : List ℕ
-  table = c.before.before.before.args.table.now
-
-  single-is : (A : Automaton) → Headed A header table → determined A ≡ true
-  single-is A k =
-      told-single (determined A) _ c.enum_told.given.1
-      (c.before.before.single-prepared.ensures A k.tabled.compiled k.symbols k.tabled.states)
-
-  starts-are : (A : Automaton) → Headed A header table → ones header.initial ≡ ones A.initial
-  starts-are A k = ap ones (sym k.initial)
-
 pub returns-in_default : goal.returns-in_default
 returns-in_default c =
     λ A k.
@@ -50,25 +35,45 @@ overflow_cast-starts c =
 
 pub returns-then-starts-ne1 : goal.returns-then-starts-ne1
 returns-then-starts-ne1 c =
+    let header : Header = c.args.header in
+    let table : List ℕ = c.args.table.now in
+    let single-is : (A : Automaton) → Headed A header table → determined A ≡ true = λ A k. told-single (determined A) _ c.in-Single.is
+        (c.single_prepared.ensures A k.tabled.compiled k.symbols k.tabled.states) in
+    let starts-are : (A : Automaton) → Headed A header table → ones header.initial ≡ ones A.initial = λ A k. ap ones (sym k.initial) in
     λ A k.
     let told = c in
-    c.refused-then-starts-ne1.ensures ∙ check-starts (determined A) A _ _ (single-is told A k) _ (starts-are told A k) c.if-starts-ne1.true
+    c.refused-then-starts-ne1.ensures ∙ check-starts (determined A) A _ _ (single-is A k) _ (starts-are A k) c.if-starts-ne1.true
 
 pub returns-then-budget-gt20000 : goal.returns-then-budget-gt20000
 returns-then-budget-gt20000 c =
+    let header : Header = c.args.header in
+    let table : List ℕ = c.args.table.now in
+    let single-is : (A : Automaton) → Headed A header table → determined A ≡ true = λ A k. told-single (determined A) _ c.in-Single.is
+        (c.single_prepared.ensures A k.tabled.compiled k.symbols k.tabled.states) in
+    let starts-are : (A : Automaton) → Headed A header table → ones header.initial ≡ ones A.initial = λ A k. ap ones (sym k.initial) in
     λ A k.
     let told = c in
-    c.refused-then-budget-gt20000.ensures ∙ check-budget (determined A) A _ _ (single-is told A k) _ (starts-are told A k) c.if-starts-ne1.false c.if-budget-gt20000.true
+    c.refused-then-budget-gt20000.ensures ∙ check-budget (determined A) A _ _ (single-is A k) _ (starts-are A k) c.if-starts-ne1.false c.if-budget-gt20000.true
 
 pub returns-then-room-budget : goal.returns-then-room-budget
 returns-then-room-budget c =
+    let header : Header = c.args.header in
+    let table : List ℕ = c.args.table.now in
+    let single-is : (A : Automaton) → Headed A header table → determined A ≡ true = λ A k. told-single (determined A) _ c.in-Single.is
+        (c.single_prepared.ensures A k.tabled.compiled k.symbols k.tabled.states) in
+    let starts-are : (A : Automaton) → Headed A header table → ones header.initial ≡ ones A.initial = λ A k. ap ones (sym k.initial) in
     λ A k.
     let told = c in
     c.refused-then-room-budget.ensures
-    ∙ check-room (determined A) A _ _ (single-is told A k) _ (starts-are told A k) c.if-starts-ne1.false c.if-budget-gt20000.false c.if-room-budget.true
+    ∙ check-room (determined A) A _ _ (single-is A k) _ (starts-are A k) c.if-starts-ne1.false c.if-budget-gt20000.false c.if-room-budget.true
 
 pub returns : goal.returns
 returns c =
+    let header : Header = c.args.header in
+    let table : List ℕ = c.args.table.now in
+    let single-is : (A : Automaton) → Headed A header table → determined A ≡ true = λ A k. told-single (determined A) _ c.in-Single.is
+        (c.single_prepared.ensures A k.tabled.compiled k.symbols k.tabled.states) in
+    let starts-are : (A : Automaton) → Headed A header table → ones header.initial ≡ ones A.initial = λ A k. ap ones (sym k.initial) in
     λ A k.
     let told = c in
-    check-passes (determined A) A _ _ (single-is told A k) _ (starts-are told A k) c.if-starts-ne1.false c.if-budget-gt20000.false c.if-room-budget.false
+    check-passes (determined A) A _ _ (single-is A k) _ (starts-are A k) c.if-starts-ne1.false c.if-budget-gt20000.false c.if-room-budget.false

@@ -20,49 +20,55 @@ use Rattle.tree.proofs.file.read_tree.Reads as read-tree-reads
 use Rattle.watch.proofs.watch_nodes.Reads as watch-nodes-reads
 use Rattle.watch.proofs.watch_file.Goals as goal
 
-module _ (c : tie.After-known-told2) where
-  abbrev h : Header
-  h = c.before.before.before.before.before.before.before.args.header
-
-  abbrev s : List ℕ
-  s = c.before.before.before.before.before.before.before.args.file.now
-
-  abbrev k : ℕ
-  k = c.before.k.given.0.0
-
-  abbrev signature : Signature
-  signature = record { symbols = h.symbols; branches = h.branches }
-
-  read_is : read_tree signature s ≡ ParsedTree.Nodes k
-  read_is = sym c.before.before.before.read-tree.ensures.0 ∙ c.before.k.given.1
-
-  read : TreeRead signature s k
-  read = tree-read signature s k read_is
-
-  -- the part of the buffer that is lent on has the file's nodes
-  nodes_are : take k c.before.before.before.read-tree.new.1.1.0 ≡ nodes_of k (content s)
-  nodes_are = front-is signature s k _ _ _ c.before.k.given.1 c.before.before.before.read-tree.ensures.1 read
-
 pub slice_bounds-nodes-end : goal.slice_bounds-nodes-end
 slice_bounds-nodes-end c =
-    let e = ap length (nodes_are c) ∙ (read c).size in
-    omega (arith, length-take (k c) c.read_tree.new.1.1.0, e)
+    let h : Header = c.args.header in
+    let s : List ℕ = c.args.file.now in
+    let k : ℕ = c.in-Nodes.k in
+    let signature : Signature = record { symbols = h.symbols; branches = h.branches } in
+    let read_is : read_tree signature s ≡ ParsedTree.Nodes k = sym c.read_tree.ensures.0 ∙ c.in-Nodes.is in
+    let read : TreeRead signature s k = tree-read signature s k read_is in
+    let nodes_are : take k c.read_tree.new.nodes ≡ nodes_of k (content s) = front-is signature s k _ _ _ c.in-Nodes.is c.read_tree.ensures.1 read in
+    let e = ap length (nodes_are) ∙ (read).size in
+    omega (arith, length-take (k) c.read_tree.new.nodes, e)
 
 pub slice_bounds-watch_nodes-end : goal.slice_bounds-watch_nodes-end
-slice_bounds-watch_nodes-end c = rw (nodes_are c) (sym (read c).size)
+slice_bounds-watch_nodes-end c =
+    let h : Header = c.args.header in
+    let s : List ℕ = c.args.file.now in
+    let k : ℕ = c.in-Nodes.k in
+    let signature : Signature = record { symbols = h.symbols; branches = h.branches } in
+    let read_is : read_tree signature s ≡ ParsedTree.Nodes k = sym c.read_tree.ensures.0 ∙ c.in-Nodes.is in
+    let read : TreeRead signature s k = tree-read signature s k read_is in
+    let nodes_are : take k c.read_tree.new.nodes ≡ nodes_of k (content s) = front-is signature s k _ _ _ c.in-Nodes.is c.read_tree.ensures.1 read in
+    rw (nodes_are) (sym (read).size)
 
 pub watch_nodes-requires : goal.watch_nodes-requires
-watch_nodes-requires c κs =
+watch_nodes-requires c =
+    let h : Header = c.args.header in
+    let s : List ℕ = c.args.file.now in
+    let k : ℕ = c.in-Nodes.k in
+    let signature : Signature = record { symbols = h.symbols; branches = h.branches } in
+    let read_is : read_tree signature s ≡ ParsedTree.Nodes k = sym c.read_tree.ensures.0 ∙ c.in-Nodes.is in
+    let read : TreeRead signature s k = tree-read signature s k read_is in
+    let nodes_are : take k c.read_tree.new.nodes ≡ nodes_of k (content s) = front-is signature s k _ _ _ c.in-Nodes.is c.read_tree.ensures.1 read in
     let told = c in
     let pre = c.requires in
-    rw (nodes_are told) (held _ _ _ pre.1.1 (s told) (k told) pre.0 (read told))
+    rw (nodes_are) (held _ _ _ pre.1.1 (s) (k) pre.0 (read))
 
 pub returns-in-Refused : goal.returns-in-Refused
-returns-in-Refused c = λ A headed. file-refused A _ _ headed _ _ _ _ (sym c.read_tree.ensures.0 ∙ c.refusal-1.given.1)
+returns-in-Refused c = λ A headed. file-refused A _ _ headed _ _ _ _ (sym c.read_tree.ensures.0 ∙ c.in-Refused.is)
 
 pub returns-in-Nodes : goal.returns-in-Nodes
 returns-in-Nodes c =
+    let h : Header = c.args.header in
+    let s : List ℕ = c.args.file.now in
+    let k : ℕ = c.in-Nodes.k in
+    let signature : Signature = record { symbols = h.symbols; branches = h.branches } in
+    let read_is : read_tree signature s ≡ ParsedTree.Nodes k = sym c.read_tree.ensures.0 ∙ c.in-Nodes.is in
+    let read : TreeRead signature s k = tree-read signature s k read_is in
+    let nodes_are : take k c.read_tree.new.nodes ≡ nodes_of k (content s) = front-is signature s k _ _ _ c.in-Nodes.is c.read_tree.ensures.1 read in
     λ A headed.
     let told = c in
-    file-watched A _ _ headed _ _ _ _ (read_is told) _
-    ((rw (nodes_are told) at c.watch_nodes.ensures) (held A _ _ headed (s told) (k told) c.requires.0 (read told)))
+    file-watched A _ _ headed _ _ _ _ (read_is) _
+    ((rw (nodes_are) at c.watch_nodes.ensures) (held A _ _ headed (s) (k) c.requires.0 (read)))

@@ -16,28 +16,27 @@ use Rattle.watch.proofs.walk_nodes.Reads as walk-nodes-reads
 use Rattle.watch.proofs.watch_check.Reads as watch-check-reads
 use Rattle.watch.proofs.watch_nodes.Goals as goal
 
-module _ (c : tie.After-enum-told) where
-  passed : (held : Held c.before.before.before.before.before.args.header c.before.before.before.before.before.args.table.now c.before.before.before.before.before.args.nodes.now)
-      → watch_check (determined held.automaton) held.automaton c.before.before.before.before.before.args.budget (length c.before.before.before.before.before.args.log.now) ≡ Passed
-  passed held = sym (c.before.before.watch-check.ensures _ held.headed) ∙ c.enum_told.given.1
-
 pub watch_check-requires : goal.watch_check-requires
-watch_check-requires c κs = c.requires.limits
+watch_check-requires c = c.requires.limits
 
 pub returns-in-Refused : goal.returns-in-Refused
 returns-in-Refused c =
     λ held.
     tree-refused (determined held.automaton) held.automaton held.tree _ _ _
-    (sym (c.watch_check.ensures _ held.headed) ∙ c.refusal-1.given.1)
+    (sym (c.watch_check.ensures _ held.headed) ∙ c.in-Refused.is)
 
 pub walk_nodes-requires : goal.walk_nodes-requires
-walk_nodes-requires c κs =
+walk_nodes-requires c =
+    let passed : (held : Held c.args.header c.args.table.now c.args.nodes.now)
+        → watch_check (determined held.automaton) held.automaton c.args.budget (length c.args.log.now) ≡ Passed = λ held. sym (c.watch_check.ensures _ held.headed) ∙ c.in_default.is in
     let held = c.requires in
-    let free = checks-passed _ _ _ _ (passed c held) in
+    let free = checks-passed _ _ _ _ (passed held) in
     (held, ap ones (sym held.headed.initial) ∙ free.one-start, free.low, free.enough)
 
 pub returns : goal.returns
 returns c =
+    let passed : (held : Held c.args.header c.args.table.now c.args.nodes.now)
+        → watch_check (determined held.automaton) held.automaton c.args.budget (length c.args.log.now) ≡ Passed = λ held. sym (c.watch_check.ensures _ held.headed) ∙ c.in_default.is in
     λ held.
-    tree-walked (determined held.automaton) held.automaton held.tree _ _ (passed c held) _ held.headed.initial _ _
+    tree-walked (determined held.automaton) held.automaton held.tree _ _ (passed held) _ held.headed.initial _ _
     (c.walk_nodes.ensures held)

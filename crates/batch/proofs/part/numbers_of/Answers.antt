@@ -5,4 +5,4 @@ use borrow.Author.Rules.{rules}
 use Rattle.batch.proofs.part.numbers_of.Goals as goal
 
 pub returns-in-Refused : goal.returns-in-Refused
-returns-in-Refused c = rw c.answer-1.given.1 refl
+returns-in-Refused c = rw c.in-Refused.is refl

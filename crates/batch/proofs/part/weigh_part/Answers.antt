@@ -40,7 +40,7 @@ pub slice_bounds-judge_one-end : goal.slice_bounds-judge_one-end
 slice_bounds-judge_one-end c = (c.whole_length-length.ensures.0 (omega (arith, c.if-length-eq0.false))).2
 
 pub judge_one-more-requires : goal.judge_one-more-requires
-judge_one-more-requires c κs = let v = c.loop-more.invariant in (c.requires, omega (arith, v.0, c.if-room-lt3.false))
+judge_one-more-requires c = let v = c.loop-more.invariant in (c.requires, omega (arith, v.0, c.if-room-lt3.false))
 
 pub loop-more-smaller : goal.loop-more-smaller
 loop-more-smaller c = let n = c.whole_length-length.ensures.0 (omega (arith, c.if-length-eq0.false)) in omega (arith, n.1, n.2)

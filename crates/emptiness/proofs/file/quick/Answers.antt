@@ -17,17 +17,17 @@ both : (w : List ℕ) (r : Quick) → r ≡ checked w → (r ≡ checked w) × D
 both w r e = (e, rw e (checked-right w))
 
 pub quick_prepared-requires : goal.quick_prepared-requires
-quick_prepared-requires c κs =
+quick_prepared-requires c =
     let told = c in
-    (prepared-ready _ _ _ _ _ _ _ told.header-1.given.1 told.prepare.ensures.1).0
+    (prepared-ready _ _ _ _ _ _ _ told.in-Read.is told.prepare.ensures.1).0
 
 pub returns-in-Refused : goal.returns-in-Refused
 unfolding checked
-returns-in-Refused c = both _ _ (rw (sym c.prepare.ensures.0 ∙ c.refusal-1.given.1))
+returns-in-Refused c = both _ _ (rw (sym c.prepare.ensures.0 ∙ c.in-Refused.is))
 
 pub returns-in-Read : goal.returns-in-Read
 unfolding checked
 returns-in-Read c =
     let told = c in
-    let ready = prepared-ready _ _ _ _ _ _ _ told.header-1.given.1 told.prepare.ensures.1 in
-    both _ _ (rw (sym told.prepare.ensures.0 ∙ told.header-1.given.1) (c.quick_prepared.ensures _ ready.1))
+    let ready = prepared-ready _ _ _ _ _ _ _ told.in-Read.is told.prepare.ensures.1 in
+    both _ _ (rw (sym told.prepare.ensures.0 ∙ told.in-Read.is) (c.quick_prepared.ensures _ ready.1))

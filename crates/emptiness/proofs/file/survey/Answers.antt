@@ -16,17 +16,17 @@ both : (w before : List ℕ) (o : Answered) → o ≡ surveyed w before → (o �
 both w before o e = (e, rw e (surveyed-right w before))
 
 pub survey_prepared-requires : goal.survey_prepared-requires
-survey_prepared-requires c κs =
+survey_prepared-requires c =
     let told = c in
-    (prepared-ready _ _ _ _ _ _ _ told.header-1.given.1 told.prepare.ensures.1).0
+    (prepared-ready _ _ _ _ _ _ _ told.in-Read.is told.prepare.ensures.1).0
 
 pub returns-in-Refused : goal.returns-in-Refused
 unfolding surveyed
-returns-in-Refused c = both _ _ _ (rw (sym c.prepare.ensures.0 ∙ c.refusal-1.given.1))
+returns-in-Refused c = both _ _ _ (rw (sym c.prepare.ensures.0 ∙ c.in-Refused.is))
 
 pub returns-in-Read : goal.returns-in-Read
 unfolding surveyed
 returns-in-Read c =
     let told = c in
-    let ready = prepared-ready _ _ _ _ _ _ _ told.header-1.given.1 told.prepare.ensures.1 in
-    both _ _ _ (rw (sym told.prepare.ensures.0 ∙ told.header-1.given.1) (c.survey_prepared.ensures _ ready.1))
+    let ready = prepared-ready _ _ _ _ _ _ _ told.in-Read.is told.prepare.ensures.1 in
+    both _ _ _ (rw (sym told.prepare.ensures.0 ∙ told.in-Read.is) (c.survey_prepared.ensures _ ready.1))

@@ -6,12 +6,12 @@ use Rattle.emptiness.proofs.Planning.{long-enough, survey-short, survey-long}
 use Rattle.emptiness.proofs.file.survey_prepared.Goals as goal
 
 pub returns-in-Refused : goal.returns-in-Refused
-returns-in-Refused c A k = survey-short A _ _ (sym c.buffer_check.ensures ∙ c.refusal-1.given.1)
+returns-in-Refused c A k = survey-short A _ _ (sym c.buffer_check.ensures ∙ c.in-Refused.is)
 
 pub survey_read-requires : goal.survey_read-requires
-survey_read-requires c κs = (c.before.before.before.before.before.before.requires, long-enough _ (sym c.buffer_check.ensures ∙ c.enum_told-1.given.1))
+survey_read-requires c = (c.before.before.before.before.before.before.requires, long-enough _ (sym c.buffer_check.ensures ∙ c.in_default.is))
 
 pub returns : goal.returns
 returns c A k =
     let r = c.survey_read.ensures A k in
-    survey-long A _ _ _ (sym c.buffer_check.ensures ∙ c.enum_told-1.given.1) r.0 r.1
+    survey-long A _ _ _ (sym c.buffer_check.ensures ∙ c.in_default.is) r.0 r.1

@@ -9,16 +9,16 @@ use Rattle.emptiness.proofs.Planning.{verdict-told, found-few}
 use Rattle.emptiness.proofs.file.survey_read.Goals as goal
 
 pub write_plan-requires : goal.write_plan-requires
-write_plan-requires c κs = (found-few c.height-in-Found-1.given.1 c.saturate.ensures.0, search rules)
+write_plan-requires c = (found-few c.in-Found.is c.saturate.ensures.0, search rules)
 
 pub overflow_add-rows : goal.overflow_add-rows
-overflow_add-rows c = let few = found-few c.height-in-Found-1.given.1 c.saturate.ensures.0 in omega arith
+overflow_add-rows c = let few = found-few c.in-Found.is c.saturate.ensures.0 in omega arith
 
 pub returns-in-Open : goal.returns-in-Open
-returns-in-Open c = λ A k. verdict-told (saturation_of A) _ (Saturated.Open _) _ _ _ (c.saturate.ensures.1 A k) c.height-1.given.1 refl
+returns-in-Open c = λ A k. verdict-told (saturation_of A) _ (Saturated.Open _) _ _ _ (c.saturate.ensures.1 A k) c.in-Open.is refl
 
 pub returns-in-Empty : goal.returns-in-Empty
-returns-in-Empty c = λ A k. verdict-told (saturation_of A) _ (Saturated.Empty _) _ _ _ (c.saturate.ensures.1 A k) c.height-in-Empty-1.given.1 refl
+returns-in-Empty c = λ A k. verdict-told (saturation_of A) _ (Saturated.Empty _) _ _ _ (c.saturate.ensures.1 A k) c.in-Empty.is refl
 
 pub returns-in-Found : goal.returns-in-Found
-returns-in-Found c = λ A k. verdict-told (saturation_of A) _ (Saturated.Found _ _ _) _ _ _ (c.saturate.ensures.1 A k) c.height-in-Found-1.given.1 c.write_plan.ensures
+returns-in-Found c = λ A k. verdict-told (saturation_of A) _ (Saturated.Found _ _ _) _ _ _ (c.saturate.ensures.1 A k) c.in-Found.is c.write_plan.ensures

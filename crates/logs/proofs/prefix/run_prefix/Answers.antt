@@ -18,10 +18,10 @@ pub loop-k-init : goal.loop-k-init
 loop-k-init c = λ w. count-begins w _ c.if-n-eq0.false _ c.entry_at-last.ensures _ c.is_start.ensures (not-false _ c.if-not-is_start.false)
 
 pub entry_at-next-requires : goal.entry_at-next-requires
-entry_at-next-requires c κs = let g = c.loop-k.invariant c.requires in omega (arith, g.whole, c.loop-k-test.true)
+entry_at-next-requires c = let g = c.loop-k.invariant c.requires in omega (arith, g.whole, c.loop-k-test.true)
 
 pub leads-requires : goal.leads-requires
-leads-requires c κs = step-asks c.requires _ (c.loop-k.invariant c.requires)
+leads-requires c = step-asks c.requires _ (c.loop-k.invariant c.requires)
 
 pub returns-then-not-leads : goal.returns-then-not-leads
 returns-then-not-leads c = λ w. count-ends w _ (c.loop-k.invariant w) c.loop-k-test.true _ c.entry_at-next.ensures _ c.leads.ensures (not-true _ c.if-not-leads.true)

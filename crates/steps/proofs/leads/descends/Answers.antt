@@ -16,7 +16,7 @@ returns-then-right-eq0 c =
     λ parents q. no_part parents a.rights.now a.node a.next a.side q c.if-right-eq0.true
 
 pub returns-in-Left : goal.returns-in-Left
-returns-in-Left c = λ parents q. rw (c.enum_told-1.given.1, ne_eqb _ 0 c.if-right-eq0.false) refl
+returns-in-Left c = λ parents q. rw (c.in-Left.is, ne_eqb _ 0 c.if-right-eq0.false) refl
 
 pub returns-in-Right : goal.returns-in-Right
-returns-in-Right c = λ parents q. rw (c.enum_told-in-Right-1.given.1, ne_eqb _ 0 c.if-right-eq0.false) refl
+returns-in-Right c = λ parents q. rw (c.in-Right.is, ne_eqb _ 0 c.if-right-eq0.false) refl

@@ -5,10 +5,10 @@ use borrow.Author.Rules.{rules}
 use Rattle.steps.proofs.leads.moves.Goals as goal
 
 pub returns-in-Stay : goal.returns-in-Stay
-returns-in-Stay c = λ q. rw c.enum_told-1.given.1 refl
+returns-in-Stay c = λ q. rw c.in-Stay.is refl
 
 pub returns-in-Up : goal.returns-in-Up
-returns-in-Up c = λ q. rw c.enum_told-in-Up-1.given.1 (c.climbs.ensures c.args.rights.now q)
+returns-in-Up c = λ q. rw c.in-Up.is (c.climbs.ensures c.args.rights.now q)
 
 pub returns-in-Down : goal.returns-in-Down
-returns-in-Down c = λ q. rw c.step-1.given.1 (c.descends.ensures c.args.parents.now q)
+returns-in-Down c = λ q. rw c.in-Down.is (c.descends.ensures c.args.parents.now q)

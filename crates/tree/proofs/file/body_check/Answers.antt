@@ -17,5 +17,5 @@ unfolding body_check
 returns c =
     let k = c.count-end in
     let same : 4 + k.result - 4 ≡ k.result = omega arith in
-    let filler = sym c.filler_check.ensures ∙ c.enum_told-1.given.1 in
+    let filler = sym c.filler_check.ensures ∙ c.in_default.is in
     rw (← k.ensures.0, filler) (rw same at c.check.ensures)

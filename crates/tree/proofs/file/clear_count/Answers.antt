@@ -18,7 +18,7 @@ returns-then-is_clear c some =
     let layout = c.layout_check.ensures in
     record {
       count = k;
-      layout = sym layout ∙ c.enum_told-in_default-1.given.1;
+      layout = sym layout ∙ c.in_default.is;
       filler = ap (λ (m : ℕ). filler_check tree_format (4 + m) p) (sym k) ∙ c.is_clear.ensures c.if-is_clear.true;
     }
 

@@ -20,60 +20,16 @@ use Rattle.tree.proofs.Reading.{layout-passed, nodes-length}
 use Rattle.tree.specs.declared.file.ParsedTree.TheVariants.{Nodes}
 use Rattle.tree.proofs.file.read_tree.Goals as goal
 
-abbrev file_at : tie.After-enum-told → List ℕ
-file_at c = c.before.before.before.before.args.file.now
-
-file-is : (c : tie.After-enum-told) → file_check tree_format (file_at c) ≡ Passed
-file-is c = sym c.before.before.file-check.ensures ∙ c.enum_told.given.1
-
-abbrev content_at : tie.After-join → List ℕ
-content_at c = content (file_at c.before.before)
-
-content-is : (c : tie.After-join) → take c.join.result c.join.new.1.0 ≡ content_at c
-content-is c = joined_is _ _ _ _ c.join.ensures.0 c.join.ensures.1
-
-content-size : (c : tie.After-join) → 508 ≤ length (content_at c)
-content-size c =
-    let s = file_at c.before.before in
-    let size = file-passed tree_format s (file-is c.before.before) in
-    omega (arith, content-length s)
-
-layout_is : (c : tie.After-layout-check) → layout_check (content_at c.before.before.before) ≡ c.layout-check.result
-layout_is c = sym (c.layout-check.ensures ∙ ap layout_check (content-is c.before.before.before))
-
-layout-passes : (c : tie.After-enum-told2) → layout_check (content_at c.before.before.before.before.before) ≡ Passed
-layout-passes c = layout_is c.before.before ∙ c.enum-told2.given.1
-
-body_is : (c : tie.After-body-check) →
-    body_check c.before.before.before.before.before.before.before.before.before.before.before.before.args.signature (content_at c.before.before.before.before.before.before) ≡ c.body-check.result
-body_is c = sym (c.body-check.ensures ∙ ap (body_check _) (content-is c.before.before.before.before.before.before))
-
-module _ (c : tie.After-count) where
-  count-is : c.count.result ≡ count_of (content_at c.before.before.before.before.before.before.before.before.before)
-  count-is = c.count.ensures.0 ∙ ap count_of (content-is c.before.before.before.before.before.before.before.before.before)
-
-  laid_out : (c.count.result ≤ 4096) × (4 + c.count.result ≤ length (content_at c.before.before.before.before.before.before.before.before.before))
-  laid_out =
-      let l = layout-passed _ (layout-passes c.before.before.before.before) in
-      rw count-is (l.most, l.nodes)
-
-  -- what is copied
-  nodes_are : take (4 + c.count.result - 4) (drop 4 (take c.before.before.before.before.before.before.before.before.before.join.result c.before.before.before.before.before.before.before.before.before.join.new.1.0))
-      ≡ nodes_of c.count.result (content_at c.before.before.before.before.before.before.before.before.before)
-  nodes_are =
-      let same : 4 + c.count.result - 4 ≡ c.count.result = omega arith in
-      rw (same, content-is c.before.before.before.before.before.before.before.before.before)
-
-  nodes-size : length (nodes_of c.count.result (content_at c.before.before.before.before.before.before.before.before.before)) ≡ c.count.result
-  nodes-size = nodes-length _ (content_at c.before.before.before.before.before.before.before.before.before) laid_out.1
-
 pub returns-in-Refused : goal.returns-in-Refused
 unfolding read_tree
-returns-in-Refused c = (rw (sym c.file_check.ensures ∙ c.refusal-1.given.1), refl)
+returns-in-Refused c = (rw (sym c.file_check.ensures ∙ c.in-Refused.is), refl)
 
 pub join-len-requires : goal.join-len-requires
 unfolding read_tree
-join-len-requires c κs = let size = file-passed tree_format _ (file-is c) in omega arith
+join-len-requires c =
+    let file_at : List ℕ = c.args.file.now in
+    let file-is : file_check tree_format (file_at) ≡ Passed = sym c.file_check.ensures ∙ c.in_default.is in
+    let size = file-passed tree_format _ (file-is) in omega arith
 
 pub slice_bounds-buffer-end : goal.slice_bounds-buffer-end
 unfolding read_tree
@@ -81,41 +37,117 @@ slice_bounds-buffer-end c = let j = c.join-len in rw j.ensures.1 (simp length-ap
 
 pub slice_bounds-content-end : goal.slice_bounds-content-end
 unfolding read_tree
-slice_bounds-content-end c = rw (content-is c) c.join-len.ensures.0
+slice_bounds-content-end c =
+    let file_at : List ℕ = c.args.file.now in
+    let content_at : List ℕ = content (file_at) in
+    let content-is : take c.join-len.result c.join-len.new.out ≡ content_at = joined_is _ _ _ _ c.join-len.ensures.0 c.join-len.ensures.1 in
+    rw (content-is) c.join-len.ensures.0
 
 pub layout_check-requires : goal.layout_check-requires
 unfolding read_tree
-layout_check-requires c κs = let size = content-size c in rw (content-is c) (omega arith)
+layout_check-requires c =
+    let file_at : List ℕ = c.args.file.now in
+    let file-is : file_check tree_format (file_at) ≡ Passed = sym c.file_check.ensures ∙ c.in_default.is in
+    let content_at : List ℕ = content (file_at) in
+    let content-is : take c.join-len.result c.join-len.new.out ≡ content_at = joined_is _ _ _ _ c.join-len.ensures.0 c.join-len.ensures.1 in
+    let content-size : 508 ≤ length (content_at) = let s = file_at in
+        let size = file-passed tree_format s (file-is) in
+        omega (arith, content-length s) in
+    let size = content-size in rw (content-is) (omega arith)
 
 pub returns-in-Refused-layout_check : goal.returns-in-Refused-layout_check
 unfolding read_tree
-returns-in-Refused-layout_check c = (rw (file-is c, layout_is c ∙ c.refusal-in-Refused-layout_check-1.given.1), refl)
+returns-in-Refused-layout_check c =
+    let file_at : List ℕ = c.args.file.now in
+    let file-is : file_check tree_format (file_at) ≡ Passed = sym c.file_check.ensures ∙ c.in_default.is in
+    let content_at : List ℕ = content (file_at) in
+    let content-is : take c.join-len.result c.join-len.new.out ≡ content_at = joined_is _ _ _ _ c.join-len.ensures.0 c.join-len.ensures.1 in
+    let layout_is : layout_check (content_at) ≡ c.layout_check.result = sym (c.layout_check.ensures ∙ ap layout_check (content-is)) in
+    (rw (file-is, layout_is ∙ c.in-Refused-layout_check.is), refl)
 
 pub body_check-requires : goal.body_check-requires
 unfolding read_tree
-body_check-requires c κs = rw (content-is c) (layout-passed _ (layout-passes c)).nodes
+body_check-requires c =
+    let file_at : List ℕ = c.args.file.now in
+    let content_at : List ℕ = content (file_at) in
+    let content-is : take c.join-len.result c.join-len.new.out ≡ content_at = joined_is _ _ _ _ c.join-len.ensures.0 c.join-len.ensures.1 in
+    let layout_is : layout_check (content_at) ≡ c.layout_check.result = sym (c.layout_check.ensures ∙ ap layout_check (content-is)) in
+    let layout-passes : layout_check (content_at) ≡ Passed = layout_is ∙ c.in_default-layout_check.is in
+    rw (content-is) (layout-passed _ (layout-passes)).nodes
 
 pub returns-in-Refused-body_check : goal.returns-in-Refused-body_check
 unfolding read_tree
-returns-in-Refused-body_check c = (rw (file-is c, layout-passes c, body_is c ∙ c.refusal-in-Refused-body_check-1.given.1), refl)
+returns-in-Refused-body_check c =
+    let file_at : List ℕ = c.args.file.now in
+    let file-is : file_check tree_format (file_at) ≡ Passed = sym c.file_check.ensures ∙ c.in_default.is in
+    let content_at : List ℕ = content (file_at) in
+    let content-is : take c.join-len.result c.join-len.new.out ≡ content_at = joined_is _ _ _ _ c.join-len.ensures.0 c.join-len.ensures.1 in
+    let layout_is : layout_check (content_at) ≡ c.layout_check.result = sym (c.layout_check.ensures ∙ ap layout_check (content-is)) in
+    let layout-passes : layout_check (content_at) ≡ Passed = layout_is ∙ c.in_default-layout_check.is in
+    let body_is : body_check c.args.signature (content_at) ≡ c.body_check.result = sym (c.body_check.ensures ∙ ap (body_check _) (content-is)) in
+    (rw (file-is, layout-passes, body_is ∙ c.in-Refused-body_check.is), refl)
 
 pub count-k-requires : goal.count-k-requires
 unfolding read_tree
-count-k-requires c κs = let size = content-size c in rw (content-is c) (omega arith)
+count-k-requires c =
+    let file_at : List ℕ = c.args.file.now in
+    let file-is : file_check tree_format (file_at) ≡ Passed = sym c.file_check.ensures ∙ c.in_default.is in
+    let content_at : List ℕ = content (file_at) in
+    let content-is : take c.join-len.result c.join-len.new.out ≡ content_at = joined_is _ _ _ _ c.join-len.ensures.0 c.join-len.ensures.1 in
+    let content-size : 508 ≤ length (content_at) = let s = file_at in
+        let size = file-passed tree_format s (file-is) in
+        omega (arith, content-length s) in
+    let size = content-size in rw (content-is) (omega arith)
 
 pub slice_bounds-copy-end : goal.slice_bounds-copy-end
 unfolding read_tree
-slice_bounds-copy-end c = rw (content-is c) (laid_out c).1
+slice_bounds-copy-end c =
+    let file_at : List ℕ = c.args.file.now in
+    let content_at : List ℕ = content (file_at) in
+    let content-is : take c.join-len.result c.join-len.new.out ≡ content_at = joined_is _ _ _ _ c.join-len.ensures.0 c.join-len.ensures.1 in
+    let layout_is : layout_check (content_at) ≡ c.layout_check.result = sym (c.layout_check.ensures ∙ ap layout_check (content-is)) in
+    let layout-passes : layout_check (content_at) ≡ Passed = layout_is ∙ c.in_default-layout_check.is in
+    let count-is : c.count-k.result ≡ count_of (content_at) = c.count-k.ensures.0 ∙ ap count_of (content-is) in
+    let laid_out : (c.count-k.result ≤ 4096) × (4 + c.count-k.result ≤ length (content_at)) = let l = layout-passed _ (layout-passes) in
+        rw count-is (l.most, l.nodes) in
+    rw (content-is) (laid_out).1
 
 pub copy-requires : goal.copy-requires
 unfolding read_tree
-copy-requires c κs = rw (nodes_are c, nodes-size c, c.copy-arg-2-1.given.0.1) (laid_out c).0
+copy-requires c =
+    let file_at : List ℕ = c.args.file.now in
+    let content_at : List ℕ = content (file_at) in
+    let content-is : take c.join-len.result c.join-len.new.out ≡ content_at = joined_is _ _ _ _ c.join-len.ensures.0 c.join-len.ensures.1 in
+    let layout_is : layout_check (content_at) ≡ c.layout_check.result = sym (c.layout_check.ensures ∙ ap layout_check (content-is)) in
+    let layout-passes : layout_check (content_at) ≡ Passed = layout_is ∙ c.in_default-layout_check.is in
+    let count-is : c.count-k.result ≡ count_of (content_at) = c.count-k.ensures.0 ∙ ap count_of (content-is) in
+    let laid_out : (c.count-k.result ≤ 4096) × (4 + c.count-k.result ≤ length (content_at)) = let l = layout-passed _ (layout-passes) in
+        rw count-is (l.most, l.nodes) in
+    let nodes_are : take (4 + c.count-k.result - 4) (drop 4 (take c.join-len.result c.join-len.new.out))
+        ≡ nodes_of c.count-k.result (content_at) = let same : 4 + c.count-k.result - 4 ≡ c.count-k.result = omega arith in
+        rw (same, content-is) in
+    let nodes-size : length (nodes_of c.count-k.result (content_at)) ≡ c.count-k.result = nodes-length _ (content_at) laid_out.1 in
+    rw (nodes_are, nodes-size, c.copy-arg-2-1.given.0.1) (laid_out).0
 
 pub returns : goal.returns
 unfolding read_tree
 returns c =
+    let file_at : List ℕ = c.args.file.now in
+    let file-is : file_check tree_format (file_at) ≡ Passed = sym c.file_check.ensures ∙ c.in_default.is in
+    let content_at : List ℕ = content (file_at) in
+    let content-is : take c.join-len.result c.join-len.new.out ≡ content_at = joined_is _ _ _ _ c.join-len.ensures.0 c.join-len.ensures.1 in
+    let layout_is : layout_check (content_at) ≡ c.layout_check.result = sym (c.layout_check.ensures ∙ ap layout_check (content-is)) in
+    let layout-passes : layout_check (content_at) ≡ Passed = layout_is ∙ c.in_default-layout_check.is in
+    let body_is : body_check c.args.signature (content_at) ≡ c.body_check.result = sym (c.body_check.ensures ∙ ap (body_check _) (content-is)) in
+    let count-is : c.count-k.result ≡ count_of (content_at) = c.count-k.ensures.0 ∙ ap count_of (content-is) in
+    let laid_out : (c.count-k.result ≤ 4096) × (4 + c.count-k.result ≤ length (content_at)) = let l = layout-passed _ (layout-passes) in
+        rw count-is (l.most, l.nodes) in
+    let nodes_are : take (4 + c.count-k.result - 4) (drop 4 (take c.join-len.result c.join-len.new.out))
+        ≡ nodes_of c.count-k.result (content_at) = let same : 4 + c.count-k.result - 4 ≡ c.count-k.result = omega arith in
+        rw (same, content-is) in
+    let nodes-size : length (nodes_of c.count-k.result (content_at)) ≡ c.count-k.result = nodes-length _ (content_at) laid_out.1 in
     let n = c in
-    let body = body_is n ∙ n.enum_told-in_default-body_check-1.given.1 in (
-      rw (file-is n, layout-passes n, body) (ap Nodes (count-is n)),
-      rw (c.copy.ensures, nodes_are n, nodes-size n),
+    let body = body_is ∙ n.in_default-body_check.is in (
+      rw (file-is, layout-passes, body) (ap Nodes (count-is)),
+      rw (c.copy.ensures, nodes_are, nodes-size),
     )

@@ -17,36 +17,38 @@ use Rattle.tree.specs.Unpacked.{Clear}
 use Rattle.tree.proofs.Unpacking.{unpacked}
 use Rattle.tree.proofs.file.unpack_to.Goals as goal
 
-file-is : (c : tie.After-enum-told2) → file_check tree_format c.before.before.before.before.before.args.file.now ≡ Passed
-file-is c = sym c.before.before.file-check.ensures ∙ c.enum-told2.given.1
-
-content-is : (c : tie.After-join) → take c.join.result c.join.new.1.0
-    ≡ content c.before.before.before.before.before.before.before.args.file.now
-content-is c = joined_is _ _ _ _ c.join.ensures.0 c.join.ensures.1
-
-content-size : (c : tie.After-join) → 4 ≤ length (content c.before.before.before.before.before.before.before.args.file.now)
-content-size c =
-    let s = c.before.before.before.before.before.before.before.args.file.now in
-    let size = file-passed tree_format s (file-is c.before.before) in
-    omega (arith, content-length s)
-
 pub returns-in-Refused : goal.returns-in-Refused
 returns-in-Refused c some = absurd (omega arith)
 
 pub join-len-requires : goal.join-len-requires
-join-len-requires c κs = let size = file-passed tree_format _ (file-is c) in omega arith
+join-len-requires c =
+    let file-is : file_check tree_format c.args.file.now ≡ Passed = sym c.file_check.ensures ∙ c.in_default.is in
+    let size = file-passed tree_format _ (file-is) in omega arith
 
 pub slice_bounds-clear_count-end : goal.slice_bounds-clear_count-end
 slice_bounds-clear_count-end c = let j = c.join-len in rw j.ensures.1 (simp length-append (omega (arith, j.ensures.0)))
 
 pub slice_bounds-clear_count-end-2 : goal.slice_bounds-clear_count-end-2
-slice_bounds-clear_count-end-2 c = rw (content-is c) c.join.ensures.0
+slice_bounds-clear_count-end-2 c =
+    let content-is : take c.join-len.result c.join-len.new.out
+        ≡ content c.args.file.now = joined_is _ _ _ _ c.join-len.ensures.0 c.join-len.ensures.1 in
+    rw (content-is) c.join.ensures.0
 
 pub clear_count-requires : goal.clear_count-requires
-clear_count-requires c κs = rw (content-is c) (content-size c)
+clear_count-requires c =
+    let file-is : file_check tree_format c.args.file.now ≡ Passed = sym c.file_check.ensures ∙ c.in_default.is in
+    let content-is : take c.join-len.result c.join-len.new.out
+        ≡ content c.args.file.now = joined_is _ _ _ _ c.join-len.ensures.0 c.join-len.ensures.1 in
+    let content-size : 4 ≤ length (content c.args.file.now) = let s = c.args.file.now in
+        let size = file-passed tree_format s (file-is) in
+        omega (arith, content-length s) in
+    rw (content-is) (content-size)
 
 pub returns : goal.returns
 returns c some =
+    let file-is : file_check tree_format c.args.file.now ≡ Passed = sym c.file_check.ensures ∙ c.in_default.is in
+    let content-is : take c.join-len.result c.join-len.new.out
+        ≡ content c.args.file.now = joined_is _ _ _ _ c.join-len.ensures.0 c.join-len.ensures.1 in
     let j = c in
-    unpacked _ _ _ _ (file-is j) (subst (λ p. Clear p c.clear_count.result) (content-is j) (c.clear_count.ensures some))
+    unpacked _ _ _ _ (file-is) (subst (λ p. Clear p c.clear_count.result) (content-is) (c.clear_count.ensures some))
     some j.join.ensures.1

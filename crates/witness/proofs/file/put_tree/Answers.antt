@@ -12,17 +12,19 @@ use mathlib.Core.Path.{◌≡◌, sym, ◌∙◌}
 use borrow.Author.Rules.{rules}
 use Rattle.witness.proofs.file.put_tree.Goals as goal
 
-nodes_are : (c : tie.After-write-nodes) → take c.write-nodes.result c.write-nodes.new.1.0 ≡ preorder (plan_tree c.before.before.before.before.args.plan.now)
-nodes_are c = front _ _ _ _ (c.write-nodes.ensures.0 ∙ sym (size-preorder _)) c.write-nodes.ensures.1
-
 pub slice_bounds-write_tree-end : goal.slice_bounds-write_tree-end
-slice_bounds-write_tree-end c = rw (nodes_are c) (c.write_nodes-k.ensures.0 ∙ sym (size-preorder _))
+slice_bounds-write_tree-end c =
+    let nodes_are : take c.write_nodes-k.result c.write_nodes-k.new.nodes ≡ preorder (plan_tree c.args.plan.now) = front _ _ _ _ (c.write_nodes-k.ensures.0 ∙ sym (size-preorder _)) c.write_nodes-k.ensures.1 in
+    rw (nodes_are) (c.write_nodes-k.ensures.0 ∙ sym (size-preorder _))
 
 pub write_tree-requires : goal.write_tree-requires
-write_tree-requires c κs =
+write_tree-requires c =
+    let nodes_are : take c.write_nodes-k.result c.write_nodes-k.new.nodes ≡ preorder (plan_tree c.args.plan.now) = front _ _ _ _ (c.write_nodes-k.ensures.0 ∙ sym (size-preorder _)) c.write_nodes-k.ensures.1 in
     let q = c in
-    rw (nodes_are c, size-preorder (plan_tree q.args.plan.now)) (q.requires.1, rw (file-long q.args.plan.now) at q.requires.2)
+    rw (nodes_are, size-preorder (plan_tree q.args.plan.now)) (q.requires.1, rw (file-long q.args.plan.now) at q.requires.2)
 
 pub returns : goal.returns
 unfolding tree_file
-returns c = rw (nodes_are c) at c.write_tree.ensures
+returns c =
+    let nodes_are : take c.write_nodes-k.result c.write_nodes-k.new.nodes ≡ preorder (plan_tree c.args.plan.now) = front _ _ _ _ (c.write_nodes-k.ensures.0 ∙ sym (size-preorder _)) c.write_nodes-k.ensures.1 in
+    rw (nodes_are) at c.write_tree.ensures

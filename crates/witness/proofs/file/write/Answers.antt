@@ -16,10 +16,10 @@ both w p before o e = (e, rw e (witness-right w p before))
 
 pub returns-in-Refused : goal.returns-in-Refused
 returns-in-Refused c =
-    let read = sym c.read.ensures.0 ∙ c.refusal-1.given.1 in
+    let read = sym c.read.ensures.0 ∙ c.in-Refused.is in
     both _ _ _ _ (sym (refused-is _ _ _ _ read))
 
 pub returns-in-Read : goal.returns-in-Read
 returns-in-Read c =
-    let read = sym c.read.ensures.0 ∙ c.header-1.given.1 in
+    let read = sym c.read.ensures.0 ∙ c.in-Read.is in
     both _ _ _ _ (c.write_checked.ensures ∙ sym (witness-is _ _ _ _ read))

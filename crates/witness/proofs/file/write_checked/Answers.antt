@@ -12,34 +12,35 @@ use mathlib.Core.Path.{◌≡◌, sym, ◌∙◌}
 use borrow.Author.Rules.{rules}
 use Rattle.witness.proofs.file.write_checked.Goals as goal
 
-plan-is : (c : tie.After-enum-told) → plan_check c.before.before.before.before.before.args.signature c.before.before.before.before.before.args.plan.now ≡ Passed
-plan-is c = sym c.before.before.plan-check.ensures ∙ c.enum_told.given.1
-
-space-is : (c : tie.After-enum-told2) → space_check c.before.before.before.before.before.before.before.before.args.plan.now (length c.before.before.before.before.before.before.before.before.args.out.now) ≡ Passed
-space-is c = sym c.before.before.space-check.ensures ∙ c.enum-told2.given.1
-
-sound-is : (c : tie.After-enum-told) → Sound c.before.before.before.before.before.args.plan.now
-sound-is c = sound _ _ (plan-passed _ _ (plan-is c))
-
 pub returns-in-Refused : goal.returns-in-Refused
 unfolding witness_for
-returns-in-Refused c = rw (sym c.plan_check.ensures ∙ c.refusal-1.given.1)
+returns-in-Refused c = rw (sym c.plan_check.ensures ∙ c.in-Refused.is)
 
 pub space_check-requires : goal.space_check-requires
-space_check-requires c κs = sound-is c
+space_check-requires c =
+    let plan-is : plan_check c.args.signature c.args.plan.now ≡ Passed = sym c.plan_check.ensures ∙ c.in_default.is in
+    let sound-is : Sound c.args.plan.now = sound _ _ (plan-passed _ _ (plan-is)) in
+    sound-is
 
 pub returns-in-Refused-space_check : goal.returns-in-Refused-space_check
 unfolding witness_for
-returns-in-Refused-space_check c = rw (plan-is c, sym c.space_check.ensures ∙ c.refusal-in-Refused-space_check-1.given.1)
+returns-in-Refused-space_check c =
+    let plan-is : plan_check c.args.signature c.args.plan.now ≡ Passed = sym c.plan_check.ensures ∙ c.in_default.is in
+    rw (plan-is, sym c.space_check.ensures ∙ c.in-Refused-space_check.is)
 
 pub put_tree-requires : goal.put_tree-requires
-put_tree-requires c κs =
-    let r = space-passed _ _ (space-is c) in
-    (sound-is c, r.0, r.1)
+put_tree-requires c =
+    let plan-is : plan_check c.args.signature c.args.plan.now ≡ Passed = sym c.plan_check.ensures ∙ c.in_default.is in
+    let space-is : space_check c.args.plan.now (length c.args.out.now) ≡ Passed = sym c.space_check.ensures ∙ c.in_default-space_check.is in
+    let sound-is : Sound c.args.plan.now = sound _ _ (plan-passed _ _ (plan-is)) in
+    let r = space-passed _ _ (space-is) in
+    (sound-is, r.0, r.1)
 
 pub returns : goal.returns
 unfolding witness_for
 returns c =
+    let plan-is : plan_check c.args.signature c.args.plan.now ≡ Passed = sym c.plan_check.ensures ∙ c.in_default.is in
+    let space-is : space_check c.args.plan.now (length c.args.out.now) ≡ Passed = sym c.space_check.ensures ∙ c.in_default-space_check.is in
     let e = c.put_tree.ensures in
     let a = c.args in
-    rw (plan-is c, space-is c) (told _ _ (plan_file a.plan.now) a.out.now e.0 e.1)
+    rw (plan-is, space-is) (told _ _ (plan_file a.plan.now) a.out.now e.0 e.1)

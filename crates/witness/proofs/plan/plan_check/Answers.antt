@@ -14,7 +14,7 @@ unfolding plan_check
 returns-then-length_wrong c = rw (sym c.length_wrong.ensures ∙ c.if-length_wrong.true) c.refused.ensures
 
 pub first_wrong-requires : goal.first_wrong-requires
-first_wrong-requires c κs =
+first_wrong-requires c =
     let right = length-right _ (sym c.length_wrong.ensures ∙ c.if-length_wrong.false) in
     omega (arith, right.few, right.whole)
 

@@ -16,7 +16,7 @@ pub overflow_cast-i : goal.overflow_cast-i
 overflow_cast-i c = omega (arith, c.requires.few)
 
 pub row_size-here-requires : goal.row_size-here-requires
-row_size-here-requires c κs = (c.requires, search rules, c.loop-i.invariant.2)
+row_size-here-requires c = (c.requires, search rules, c.loop-i.invariant.2)
 
 pub loop-i-preserved : goal.loop-i-preserved
 loop-i-preserved c =
