@@ -74,7 +74,7 @@ planted b (suc n) i (σ ∷ s) e = go (member b σ) refl (planted b (opened (mem
 -- a tree closes one part
 pub parts-tree : (b n i : ℕ) (t : Tree) (s : List ℕ) → Shaped b t → parts_from b (suc n) i (preorder t ++ s) ≡ parts_from b n (i + size t) s
 unfolding parts_from preorder Shaped
-parts-tree b n i (leaf σ) s h = rw h
+parts-tree b n i (leaf σ) s h = rw (parts_from, h)
 parts-tree b n i (node σ l r) s h =
     let e : parts_from b (suc (suc n)) (i + 1) ((preorder l ++ preorder r) ++ s) ≡ parts_from b n (i + 1 + size l + size r) s =
     rw append_assoc (parts-tree b (suc n) (i + 1) l (preorder r ++ s) h.1 ∙ parts-tree b n (i + 1 + size l) r s h.2) in
