@@ -37,6 +37,7 @@ cover-mem Scope.Every τ m = tt
 
 module _ (s r : Rule) where
   mem-places : (τs : List Place) (τ : Place) → τ ∈ τs → r ≡ at_place s τ → r ∈ map (at_place s) τs
+  mem-places [] τ m k = elim m [ ]
   mem-places (π ∷ τs) τ (Memᴰ.head e) k = Memᴰ.head (k ∙ ap (at_place s) e)
   mem-places (π ∷ τs) τ (Memᴰ.tail m) k = Memᴰ.tail (mem-places τs τ m k)
 

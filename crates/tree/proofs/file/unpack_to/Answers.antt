@@ -32,7 +32,7 @@ pub slice_bounds-clear_count-end-2 : goal.slice_bounds-clear_count-end-2
 slice_bounds-clear_count-end-2 c =
     let content-is : take c.join-len.result c.join-len.new.out
         ≡ content c.args.file.now = joined_is _ _ _ _ c.join-len.ensures.0 c.join-len.ensures.1 in
-    rw (content-is) c.join.ensures.0
+    rw (content-is) c.join-len.ensures.0
 
 pub clear_count-requires : goal.clear_count-requires
 clear_count-requires c =
@@ -51,4 +51,4 @@ returns c some =
         ≡ content c.args.file.now = joined_is _ _ _ _ c.join-len.ensures.0 c.join-len.ensures.1 in
     let j = c in
     unpacked _ _ _ _ (file-is) (subst (λ p. Clear p c.clear_count.result) (content-is) (c.clear_count.ensures some))
-    some j.join.ensures.1
+    some j.join-len.ensures.1
