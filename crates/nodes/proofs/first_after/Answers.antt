@@ -1,6 +1,5 @@
 -- `nodes::first_after` meets its contract: the tests pick the case of the definition.
 -- Assumes nothing.
-use borrow.Author.Rules.{rules}
 use borrow.Author.Tests.{eq-eqb, ne_eqb}
 use Rattle.nodes.specs.Scan.{first_after}
 use Rattle.nodes.proofs.first_after.Goals as goal

@@ -1,6 +1,5 @@
 -- `nodes::height_check` meets its contract: the test picks the case of the definition.
 -- Assumes nothing.
-use borrow.Author.Rules.{rules}
 use Rattle.refusal.proofs.Cases.{checks}
 use Rattle.nodes.specs.Scan.{height_by}
 use Rattle.nodes.proofs.height_check.Goals as goal

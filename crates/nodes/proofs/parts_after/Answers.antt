@@ -1,6 +1,5 @@
 -- `nodes::parts_after` meets its contract.
 -- Assumes nothing.
-use borrow.Author.Rules.{rules}
 use native.Mathlib.Omega.{arith}
 use Rattle.nodes.specs.Scan.{parts_after}
 use Rattle.nodes.proofs.Scanning.{parts_are, opened-most}

@@ -1,9 +1,9 @@
 -- `nodes::scan_nodes` meets its contract: a node more is `onward`, and the end is `ended`.
 -- Assumes nothing.
-use Rattle.std.proofs.Common.{◌≡◌, ◌+◌, ◌<◌, length, sym, ap, ap₂, ◌∙◌, arith}
+use Rattle.std.proofs.Common.{◌≡◌, sym, ap, ap₂, ◌∙◌, arith}
 use Rattle.nodes.specs.Reader.{node_at, place_after}
 use Rattle.nodes.specs.Scan.{scanned_of}
-use Rattle.nodes.specs.declared.reader.Here.TheVariants.{Node, End}
+use Rattle.nodes.specs.declared.reader.Here.TheVariants.{Node}
 use Rattle.nodes.proofs.Reached.{symbol-here, place-next, begun, onward, ended}
 use Rattle.nodes.proofs.scan_nodes.Goals as goal
 
@@ -24,8 +24,7 @@ loop-symbol-preserved c =
     let i = c.loop-symbol.invariant in
     let p = i.1.0 in
     let h : Node c.in-Node.symbol ≡ node_at c.args.symbols.now p.place = c.in-Node.ensures ∙ ap₂ node_at i.0 (sym i.1.1) in
-    let e = c.moved_on-reader.ensures.1 ∙ ap₂ place_after i.0 (sym i.1.1) ∙ place-next _ _ (symbol-here _ _ _ h).0 in
-    (
+    let e = c.moved_on-reader.ensures.1 ∙ ap₂ place_after i.0 (sym i.1.1) ∙ place-next _ _ (symbol-here _ _ _ h).0 in (
       ap (λ b. b.now) c.moved_on-reader.ensures.0 ∙ i.0,
       (
         onward c.args.signature c.args.symbols.now p c.in-Node.symbol h,

@@ -1,6 +1,5 @@
 -- `nodes::scanned` meets its contract: each field is what its call returned.
 -- Assumes nothing.
-use borrow.Author.Rules.{rules}
 use Rattle.nodes.specs.Scan.{scanned_of}
 use Rattle.nodes.proofs.scanned.Goals as goal
 

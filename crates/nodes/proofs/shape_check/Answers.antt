@@ -1,6 +1,5 @@
 -- `nodes::shape_check` meets its contract: at each return the tests that led there pick the case.
 -- Assumes nothing.
-use borrow.Author.Rules.{rules}
 use Rattle.refusal.proofs.Cases.{checks}
 use Rattle.nodes.specs.Scan.{shape_by}
 use Rattle.nodes.proofs.shape_check.Goals as goal

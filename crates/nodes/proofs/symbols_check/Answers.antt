@@ -1,6 +1,5 @@
 -- `nodes::symbols_check` meets its contract: the test picks the case of the definition.
 -- Assumes nothing.
-use borrow.Author.Rules.{rules}
 use Rattle.refusal.proofs.Cases.{checks}
 use Rattle.nodes.specs.Scan.{symbols_by}
 use Rattle.nodes.proofs.symbols_check.Goals as goal

@@ -1,6 +1,5 @@
 -- `relation::below` meets its contract: `1 << states` is 2 ^ states.
 -- Assumes nothing.
-use borrow.Author.Rules.{rules}
 use mathlib.Core.Path.{ap}
 use Prim.Native.Nat.{ℕ, ◌-◌}
 use native.Mathlib.Omega.{arith}

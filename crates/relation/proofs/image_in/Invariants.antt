@@ -1,15 +1,9 @@
 -- `relation::image_in` meets its contract: at each turn the image of the members left is still to be joined.
 -- Assumes nothing.
-use borrow.Author.Rules.{rules}
-use mathlib.Core.Path.{◌≡◌, sym, ap, ◌∙◌}
-use Prim.Native.Nat.{ℕ, ◌<◌, ◌^◌}
-use native.Mathlib.Nat.{mod-lt}
-use native.Mathlib.Omega.{arith}
-use lib.Bits.{bit_or, or_zero_l}
-use lib.ListN.{length}
-use lib.Pow.{pow_pos}
+use mathlib.Core.Path.{◌≡◌}
+use Prim.Native.Nat.{◌<◌, ◌^◌}
+use lib.Bits.{bit_or}
 use Rattle.relation.specs.Rows.{image_of}
-use Rattle.relation.proofs.Members.{lowest-row, rest-falls, image-cut, image-step, image-done}
 use Rattle.relation.proofs.image_in.Given as goal
 
 abbrev pub invariant-loop-rest : goal.invariant-loop-rest

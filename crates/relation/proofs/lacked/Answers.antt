@@ -1,5 +1,4 @@
 -- `relation::lacked` meets its contract. Assumes nothing.
-use borrow.Author.Rules.{rules}
 use native.Mathlib.Omega.{arith}
 use Rattle.relation.proofs.Growing.{or-more}
 use Rattle.relation.proofs.lacked.Goals as goal

@@ -1,11 +1,7 @@
 -- `relation::occupied_in` meets its contract: at each turn the rows before p are in the set or are 0.
 -- Assumes nothing.
-use borrow.Author.Rules.{rules}
-use mathlib.Core.Path.{sym, subst}
-use Prim.Native.Nat.{ℕ, ◌+◌, ◌-◌, ◌≤◌}
-use native.Mathlib.Omega.{arith}
-use lib.Bits.{bit_or}
-use Rattle.relation.proofs.Members.{Upto, upto-none, upto_turn, upto_done}
+use Prim.Native.Nat.{◌-◌, ◌≤◌}
+use Rattle.relation.proofs.Members.{Upto}
 use Rattle.relation.proofs.occupied_in.Given as goal
 
 abbrev pub invariant-loop-p : goal.invariant-loop-p

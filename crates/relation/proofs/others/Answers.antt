@@ -1,6 +1,5 @@
 -- `relation::others` meets its contract: `1 << p` is 2 ^ p, and an `or` is no less than what goes into it.
 -- Assumes nothing.
-use borrow.Author.Rules.{rules}
 use mathlib.Core.Path.{ap}
 use Prim.Native.Nat.{ℕ, ◌*◌, ◌%◌, ◌^◌, ◌-◌}
 use native.Mathlib.Omega.{arith}

@@ -1,12 +1,8 @@
 -- `relation::same_rows` meets its contract: at each turn the rows from p on are still to be compared. Assumes nothing.
-use mathlib.Core.Path.{◌≡◌, refl, sym, ap, ap₂, ◌∙◌}
-use mathlib.Core.Bool.{Bool, ◌&&◌}
-use Prim.Native.Nat.{◌+◌, ◌≤◌, ◌-◌}
-use borrow.Author.Rules.{rules}
-use borrow.Author.Tests.{eq-eqb, ne_eqb}
-use lib.ListN.{drop, drop_of_length-le}
+use mathlib.Core.Path.{◌≡◌}
+use Prim.Native.Nat.{◌≤◌, ◌-◌}
+use lib.ListN.{drop}
 use Rattle.relation.specs.Rows.{same_rows}
-use Rattle.relation.proofs.Turns.{same_turn}
 use Rattle.relation.proofs.same_rows.Given as goal
 
 abbrev pub invariant-loop-p : goal.invariant-loop-p

@@ -1,6 +1,5 @@
 -- `transitions::add_rule` meets its contract: one place, or three one after the other.
 -- Assumes nothing.
-use borrow.Author.Rules.{rules}
 use Rattle.transitions.proofs.Laws.{at_one, at_every}
 use Rattle.transitions.proofs.add_rule.Goals as goal
 

@@ -1,6 +1,5 @@
 -- `transitions::add_step` meets its contract: the store is to the cell of the rule's numbers, and to no other.
 -- Assumes nothing.
-use borrow.Author.Rules.{rules}
 use native.Mathlib.Omega.{arith}
 use Rattle.relation.proofs.BitLaws.{one_shl}
 use Rattle.transitions.proofs.Laws.{stepped}

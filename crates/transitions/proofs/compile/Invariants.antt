@@ -1,11 +1,8 @@
 -- `transitions::compile` meets its contract. The invariant: the table is that of the first i rules.
 -- Assumes nothing.
-use borrow.Author.Rules.{rules}
 use Prim.Native.Nat.{◌-◌, ◌≤◌}
-use mathlib.Core.Path.{◌≡◌, refl}
 use Rattle.transitions.specs.Transitions.{next_states}
 use Rattle.transitions.specs.Compiled.{Tabulates}
-use Rattle.transitions.proofs.Laws.{none-held, one-held}
 use Rattle.transitions.proofs.compile.Given as goal
 
 abbrev pub invariant-loop-i : goal.invariant-loop-i

@@ -2,7 +2,6 @@
 -- Assumes nothing.
 -- the file reads
 -- the part of the buffer that is lent on holds the joined contents
-use borrow.Author.Rules.{rules}
 use mathlib.Core.Path.{◌≡◌, refl, sym, ◌∙◌}
 use lib.ListN.{take}
 use Rattle.blocks.specs.Blocks.{content}

@@ -1,6 +1,5 @@
 -- `automaton::file::body_check` meets its contract: the first of lines 6, 7, and 8 and 9, that refuses decides.
 -- Assumes nothing.
-use borrow.Author.Rules.{rules}
 use Rattle.refusal.proofs.Cases.{checks}
 use Rattle.automaton.specs.File.{body_check, rules_check}
 use Rattle.automaton.proofs.file.body_check.Goals as goal

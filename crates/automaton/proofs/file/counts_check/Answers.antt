@@ -1,6 +1,5 @@
 -- `automaton::file::counts_check` meets its contract: the first count outside its limits decides.
 -- Assumes nothing.
-use borrow.Author.Rules.{rules}
 use Rattle.refusal.proofs.Cases.{checks}
 use Rattle.automaton.specs.File.{counts_check}
 use Rattle.automaton.proofs.file.counts_check.Goals as goal

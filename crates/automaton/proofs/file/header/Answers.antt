@@ -1,6 +1,5 @@
 -- `automaton::file::header` meets its contract: each field is what its read ensures.
 -- Assumes nothing.
-use borrow.Author.Rules.{rules}
 use Rattle.automaton.specs.File.{header_of}
 use Rattle.automaton.proofs.file.header.Goals as goal
 

@@ -1,6 +1,5 @@
 -- `automaton::file::layout_check` meets its contract: the first of lines 3, 4 and 5 that refuses decides.
 -- Assumes nothing.
-use borrow.Author.Rules.{rules}
 use Rattle.refusal.proofs.Cases.{checks}
 use Rattle.automaton.specs.File.{layout_check}
 use Rattle.automaton.proofs.file.layout_check.Goals as goal

@@ -2,7 +2,6 @@
 -- Assumes nothing.
 -- the file, after lines 1 and 2
 -- the part of the buffer that is lent on holds the joined contents
-use borrow.Author.Rules.{rules}
 use Prim.Native.Nat.{ℕ, ◌≤◌}
 use mathlib.Core.Path.{◌≡◌, refl, sym, ap, ap₂, ◌∙◌}
 use mathlib.Core.List.{List}
@@ -50,7 +49,7 @@ header-header-requires c =
     let content_at : List ℕ = content (file_at) in
     let content-is : take c.join-len.result c.join-len.new.out ≡ content_at = joined_is _ _ _ _ c.join-len.ensures.0 c.join-len.ensures.1 in
     let content-size : 508 ≤ length content_at = let size = file-passed format (file_at) (file-is) in
-        omega (arith, content-length (file_at)) in
+    omega (arith, content-length (file_at)) in
     let size = content-size in rw (content-is) (omega arith)
 
 pub layout_check-requires : goal.layout_check-requires
@@ -61,7 +60,7 @@ layout_check-requires c =
     let content_at : List ℕ = content (file_at) in
     let content-is : take c.join-len.result c.join-len.new.out ≡ content_at = joined_is _ _ _ _ c.join-len.ensures.0 c.join-len.ensures.1 in
     let content-size : 508 ≤ length content_at = let size = file-passed format (file_at) (file-is) in
-        omega (arith, content-length (file_at)) in
+    omega (arith, content-length (file_at)) in
     let size = content-size in rw (content-is) (omega arith)
 
 pub returns-in-Refused-layout_check : goal.returns-in-Refused-layout_check
@@ -90,8 +89,8 @@ returns-in-Refused-body_check c =
     let layout_is : c.layout_check.result ≡ layout_check (header_of (content_at)) (content_at) = c.layout_check.ensures ∙ ap₂ layout_check (header_is) (content-is) in
     let layout-passes : layout_check (header_of (content_at)) (content_at) ≡ Passed = sym (layout_is) ∙ c.in_default-layout_check.is in
     let body_is : c.body_check.result
-        ≡ body_check (header_of (content_at)) (content_at) = c.body_check.ensures
-        ∙ ap₂ body_check (header_is) (content-is) in
+    ≡ body_check (header_of (content_at)) (content_at) = c.body_check.ensures
+    ∙ ap₂ body_check (header_is) (content-is) in
     let told = c in
     (rw (file-is, layout-passes, sym (body_is) ∙ c.in-Refused-body_check.is), refl)
 
@@ -103,7 +102,7 @@ copy-requires c =
     let content_at : List ℕ = content (file_at) in
     let content-is : take c.join-len.result c.join-len.new.out ≡ content_at = joined_is _ _ _ _ c.join-len.ensures.0 c.join-len.ensures.1 in
     let content-most : length content_at ≤ 3048 = let size = file-passed format (file_at) (file-is) in
-        omega (arith, content-length (file_at)) in
+    omega (arith, content-length (file_at)) in
     rw (content-is, c.copy-arg-1.given.0.1) (content-most)
 
 pub returns : goal.returns
@@ -118,8 +117,8 @@ returns c =
     let layout_is : c.layout_check.result ≡ layout_check (header_of (content_at)) (content_at) = c.layout_check.ensures ∙ ap₂ layout_check (header_is) (content-is) in
     let layout-passes : layout_check (header_of (content_at)) (content_at) ≡ Passed = sym (layout_is) ∙ c.in_default-layout_check.is in
     let body_is : c.body_check.result
-        ≡ body_check (header_of (content_at)) (content_at) = c.body_check.ensures
-        ∙ ap₂ body_check (header_is) (content-is) in
+    ≡ body_check (header_of (content_at)) (content_at) = c.body_check.ensures
+    ∙ ap₂ body_check (header_is) (content-is) in
     let told = c in (
       rw (file-is, layout-passes, sym (body_is) ∙ c.in_default-body_check.is)
           (ap Parsed.Read (header_is)),

@@ -1,6 +1,5 @@
 -- `automaton::file::sets_check` meets its contract: the first set with a bit too high decides.
 -- Assumes nothing.
-use borrow.Author.Rules.{rules}
 use Rattle.refusal.proofs.Cases.{checks}
 use Rattle.automaton.specs.File.{sets_check}
 use Rattle.automaton.proofs.file.sets_check.Goals as goal

@@ -1,6 +1,5 @@
 -- `automaton::rules::is_misplaced` meets its contract: each arm has its move.
 -- Assumes nothing.
-use borrow.Author.Rules.{rules}
 use mathlib.Core.Path.{ap}
 use mathlib.Core.Bool.{not}
 use Rattle.automaton.specs.Rules.{misplaced}

@@ -1,6 +1,5 @@
 -- `automaton::rules::rule_at` meets its contract: the test picks the case of `rule_at`.
 -- Assumes nothing.
-use borrow.Author.Rules.{rules}
 use mathlib.Core.Path.{sym, ◌∙◌}
 use Rattle.automaton.specs.Rules.{rule_at}
 use Rattle.automaton.proofs.rules.rule_at.Goals as goal

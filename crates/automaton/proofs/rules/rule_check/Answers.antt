@@ -1,6 +1,5 @@
 -- `automaton::rules::rule_check` meets its contract: line 8 decides, or leaves line 9.
 -- Assumes nothing.
-use borrow.Author.Rules.{rules}
 use mathlib.Core.Path.{sym, ◌∙◌}
 use Rattle.refusal.proofs.Cases.{refuse-if, pass-if}
 use Rattle.automaton.specs.Rules.{rule_check}

@@ -1,11 +1,8 @@
 -- `automaton::rules::rules_check` meets its contract. The invariant: the checks that are left, from rule i on, give the answer.
 -- Assumes nothing.
-use borrow.Author.Rules.{rules}
 use Prim.Native.Nat.{◌-◌, ◌≤◌}
-use mathlib.Core.Path.{◌≡◌, sym, ◌∙◌}
-use native.Mathlib.Nat.{sub-zero}
+use mathlib.Core.Path.{◌≡◌}
 use Rattle.refusal.specs.Checks.{check_each, check_from}
-use Rattle.refusal.proofs.Cases.{each_next, each-stop, each-done}
 use Rattle.automaton.specs.Rules.{rule_check}
 use Rattle.automaton.proofs.rules.rules_check.Given as goal
 

@@ -1,6 +1,5 @@
 -- `automaton::rules::sort_rule` meets its contract: the cases that led to each return pick the case of `sorted`.
 -- Assumes nothing.
-use borrow.Author.Rules.{rules}
 use mathlib.Core.Path.{sym, ◌∙◌}
 use Rattle.automaton.proofs.rules.sort_rule.Goals as goal
 

@@ -1,6 +1,5 @@
 -- `nodes::reader::node_at` meets its contract: the test picks the case of the definition.
 -- Assumes nothing.
-use borrow.Author.Rules.{rules}
 use borrow.Author.Tests.{lt-ltb, le-ltb}
 use Rattle.nodes.specs.Reader.{node_at}
 use Rattle.nodes.proofs.reader.node_at.Goals as goal

@@ -1,6 +1,5 @@
 -- `nodes::reader::place_after` meets its contract: the test picks the case of the definition.
 -- Assumes nothing.
-use borrow.Author.Rules.{rules}
 use borrow.Author.Tests.{lt-ltb, le-ltb}
 use Rattle.nodes.specs.Reader.{place_after}
 use Rattle.nodes.proofs.reader.place_after.Goals as goal

@@ -1,12 +1,7 @@
 -- `relation::Relation::between` meets its contract: at each turn the pairs out of the states before p are in both sets.
 -- Assumes nothing.
-use borrow.Author.Rules.{rules}
-use mathlib.Core.Path.{◌≡◌, sym, subst}
-use Prim.Native.Nat.{ℕ, ◌+◌, ◌-◌, ◌≤◌}
-use native.Mathlib.Omega.{arith}
-use lib.Bits.{bit_or}
-use lib.ListN.{length}
-use Rattle.relation.proofs.Closing.{Seen, seen_none, seen-turn, seen_done}
+use Prim.Native.Nat.{◌-◌, ◌≤◌}
+use Rattle.relation.proofs.Closing.{Seen}
 use Rattle.relation.proofs.Relation.between.Given as goal
 
 abbrev pub invariant-loop-p : goal.invariant-loop-p

@@ -2,16 +2,16 @@
 -- Assumes nothing.
 use borrow.Author.Rules.{rules}
 use mathlib.Core.Path.{◌≡◌, refl, ap, subst, ◌∙◌}
-use Prim.Native.Nat.{ℕ, ◌-◌, ◌^◌, ◌≤◌, ◌<◌}
+use Prim.Native.Nat.{ℕ, ◌<◌}
 use native.Mathlib.Omega.{arith}
 use lib.ListN.{length, get_or, length-map}
 use Rattle.relation.specs.Bit.{bit}
 use Rattle.relation.proofs.BitLaws.{one_shl}
 use Rattle.relation.specs.Rows.{or_if, absorbed, through}
-use Rattle.relation.proofs.Over.{over, over_done}
+use Rattle.relation.proofs.Over.{over_done}
 use Rattle.relation.proofs.Members.{lowest-row, rest-falls}
 use Rattle.relation.proofs.Turns.{absorb-turn}
-use Rattle.relation.proofs.Closing.{Selfs, selfs-none, selfs-step, Closing, Onward, closing-begin, closing-small, closing-step, closing-done}
+use Rattle.relation.proofs.Closing.{selfs-none, selfs-step, Closing, closing-begin, closing-small, closing-step, closing-done}
 use Rattle.relation.proofs.Relation.closure.Goals as goal
 
 pub loop-p-init : goal.loop-p-init

@@ -1,17 +1,11 @@
 -- `relation::Relation::closure` meets its contract: the first loop adds the self pairs, and the second goes through the states of `between`.
 -- Assumes nothing.
-use borrow.Author.Rules.{rules}
-use mathlib.Core.Path.{◌≡◌, refl, ap, subst, ◌∙◌}
-use Prim.Native.Nat.{ℕ, ◌-◌, ◌^◌, ◌≤◌, ◌<◌}
-use native.Mathlib.Omega.{arith}
-use lib.ListN.{length, get_or, length-map}
-use Rattle.relation.specs.Bit.{bit}
-use Rattle.relation.proofs.BitLaws.{one_shl}
-use Rattle.relation.specs.Rows.{or_if, absorbed, through}
-use Rattle.relation.proofs.Over.{over, over_done}
-use Rattle.relation.proofs.Members.{lowest-row, rest-falls}
-use Rattle.relation.proofs.Turns.{absorb-turn}
-use Rattle.relation.proofs.Closing.{Selfs, selfs-none, selfs-step, Closing, Onward, closing-begin, closing-small, closing-step, closing-done}
+use mathlib.Core.Path.{◌≡◌}
+use Prim.Native.Nat.{◌-◌, ◌^◌, ◌≤◌, ◌<◌}
+use lib.ListN.{length}
+use Rattle.relation.specs.Rows.{absorbed}
+use Rattle.relation.proofs.Over.{over}
+use Rattle.relation.proofs.Closing.{Selfs, Onward}
 use Rattle.relation.proofs.Relation.closure.Given as goal
 
 abbrev pub invariant-loop-p : goal.invariant-loop-p

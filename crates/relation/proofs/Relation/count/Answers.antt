@@ -1,12 +1,11 @@
 -- `relation::Relation::count` meets its contract: at each turn the rows from p on are still to be counted. Assumes nothing.
 use mathlib.Core.Path.{◌≡◌, ap}
-use Prim.Native.Nat.{◌+◌, ◌*◌, ◌≤◌, ◌-◌}
 use native.Mathlib.Omega.{arith}
 use native.Mathlib.Nat.{zero-add}
 use lib.Count.{ones-le}
 use mir.Syntax.{w32}
 use mir.Val.{Fits}
-use lib.ListN.{length, get_or, drop, drop_of_length-le}
+use lib.ListN.{length, get_or, drop_of_length-le}
 use Rattle.relation.specs.Rows.{count_of}
 use Rattle.relation.proofs.Turns.{count_turn}
 use borrow.Author.Rules.{rules}

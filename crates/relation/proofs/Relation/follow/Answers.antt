@@ -2,10 +2,9 @@
 -- Assumes nothing.
 use borrow.Author.Rules.{rules}
 use mathlib.Core.Path.{◌≡◌, refl, subst}
-use Prim.Native.Nat.{◌≤◌, ◌-◌}
 use native.Mathlib.Omega.{arith}
 use lib.ListN.{length, get_or}
-use Rattle.relation.proofs.Over.{over, over_done}
+use Rattle.relation.proofs.Over.{over_done}
 use Rattle.relation.proofs.Members.{lowest-row, rest-falls}
 use Rattle.relation.proofs.Members.{columned, length-columned, column-turn, Columns, columns-start, columns-step, columns-done}
 use Rattle.relation.proofs.Relation.follow.Goals as goal

@@ -1,13 +1,9 @@
 -- `relation::Relation::follow` meets its contract: each row, with the image of those of its states that are left, is that of `composed`.
 -- Assumes nothing.
-use borrow.Author.Rules.{rules}
-use mathlib.Core.Path.{◌≡◌, refl, subst}
+use mathlib.Core.Path.{◌≡◌}
 use Prim.Native.Nat.{◌≤◌, ◌-◌}
-use native.Mathlib.Omega.{arith}
-use lib.ListN.{length, get_or}
-use Rattle.relation.proofs.Over.{over, over_done}
-use Rattle.relation.proofs.Members.{lowest-row, rest-falls}
-use Rattle.relation.proofs.Members.{columned, length-columned, column-turn, Columns, columns-start, columns-step, columns-done}
+use Rattle.relation.proofs.Over.{over}
+use Rattle.relation.proofs.Members.{columned, Columns}
 use Rattle.relation.proofs.Relation.follow.Given as goal
 
 abbrev pub invariant-loop-p : goal.invariant-loop-p

@@ -1,5 +1,4 @@
 -- `relation::Relation::image` meets its contract. Assumes nothing.
-use borrow.Author.Rules.{rules}
 use Rattle.relation.proofs.Relation.image.Goals as goal
 
 pub returns : goal.returns

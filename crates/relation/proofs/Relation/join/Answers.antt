@@ -1,12 +1,11 @@
 -- `relation::Relation::join` meets its contract: the loop replaces each row by that of `joined`. Assumes nothing.
 use mathlib.Core.Path.{◌≡◌, refl, sym, ◌∙◌}
-use Prim.Native.Nat.{◌≤◌, ◌-◌}
 use native.Mathlib.Omega.{arith}
 use lib.ListN.{length}
 use borrow.Author.Rules.{rules}
 use Rattle.relation.specs.Rows.{joined}
 use Rattle.relation.proofs.Pairs.{length-joined}
-use Rattle.relation.proofs.Over.{over, over_done}
+use Rattle.relation.proofs.Over.{over_done}
 use Rattle.relation.proofs.Turns.{join-turn}
 use Rattle.relation.proofs.Relation.join.Goals as goal
 

@@ -1,5 +1,4 @@
 -- `relation::Relation::same` meets its contract. Assumes nothing.
-use borrow.Author.Rules.{rules}
 use Rattle.relation.proofs.Relation.same.Goals as goal
 
 pub returns : goal.returns

@@ -1,12 +1,11 @@
 -- `relation::Relation::without` meets its contract: the loop replaces each row by that of `without`. Assumes nothing.
 use mathlib.Core.Path.{◌≡◌, refl}
-use Prim.Native.Nat.{◌≤◌, ◌-◌}
 use native.Mathlib.Omega.{arith}
 use lib.ListN.{length}
 use borrow.Author.Rules.{rules}
 use Rattle.relation.specs.Growth.{without}
 use Rattle.relation.proofs.Growing.{length_without, without-turn}
-use Rattle.relation.proofs.Over.{over, over_done}
+use Rattle.relation.proofs.Over.{over_done}
 use Rattle.relation.proofs.Relation.without.Goals as goal
 
 pub loop-p-init : goal.loop-p-init

@@ -1,12 +1,8 @@
 -- `relation::Relation::without` meets its contract: the loop replaces each row by that of `without`. Assumes nothing.
-use mathlib.Core.Path.{◌≡◌, refl}
+use mathlib.Core.Path.{◌≡◌}
 use Prim.Native.Nat.{◌≤◌, ◌-◌}
-use native.Mathlib.Omega.{arith}
-use lib.ListN.{length}
-use borrow.Author.Rules.{rules}
 use Rattle.relation.specs.Growth.{without}
-use Rattle.relation.proofs.Growing.{length_without, without-turn}
-use Rattle.relation.proofs.Over.{over, over_done}
+use Rattle.relation.proofs.Over.{over}
 use Rattle.relation.proofs.Relation.without.Given as goal
 
 abbrev pub invariant-loop-p : goal.invariant-loop-p

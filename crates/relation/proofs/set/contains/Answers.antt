@@ -1,6 +1,5 @@
 -- `relation::set::contains` meets its contract: from 32 on every bit of a `u32` is 0.
 -- Assumes nothing.
-use borrow.Author.Rules.{rules}
 use mathlib.Core.Path.{refl}
 use native.Mathlib.Nat.{div-eq_of_lt, lt_of_lt_of_le}
 use lib.Pow.{pow_mono}

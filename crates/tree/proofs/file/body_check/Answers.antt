@@ -1,6 +1,5 @@
 -- `tree::file::body_check` meets its contract: line 6 refuses, or leaves the node list.
 -- Assumes nothing.
-use borrow.Author.Rules.{rules}
 use Prim.Native.Nat.{◌+◌, ◌-◌}
 use mathlib.Core.Path.{◌≡◌, sym, ◌∙◌}
 use native.Mathlib.Omega.{arith}

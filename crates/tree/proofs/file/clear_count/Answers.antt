@@ -1,6 +1,5 @@
 -- `tree::file::clear_count` meets its contract: no line from 3 to 6 has refused where a number is returned.
 -- Assumes nothing.
-use borrow.Author.Rules.{rules}
 use Prim.Native.Nat.{ℕ, ◌+◌}
 use mathlib.Core.Path.{sym, ap, ◌∙◌}
 use native.Mathlib.Omega.{arith}

@@ -1,6 +1,5 @@
 -- `tree::file::is_clear` meets its contract: the header's zero byte, and the bytes after the payload, are all that line 6 asks for.
 -- Assumes nothing.
-use borrow.Author.Rules.{rules}
 use borrow.Author.Tests.{eqb-true}
 use Rattle.tree.proofs.Unpacking.{clear-passes}
 use Rattle.tree.proofs.file.is_clear.Goals as goal

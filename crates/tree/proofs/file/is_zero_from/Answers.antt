@@ -1,12 +1,8 @@
 -- `tree::file::is_zero_from` meets its contract. The invariant: where what was joined is 0, the bytes up to the present one are.
 -- Assumes nothing.
-use borrow.Author.Rules.{rules}
 use borrow.Author.Tests.{eqb-true}
-use Prim.Native.Nat.{◌-◌}
-use mathlib.Core.Path.{◌≡◌}
 use native.Mathlib.Omega.{arith}
-use lib.ListN.{length}
-use Rattle.tree.proofs.Unpacking.{ZeroTo, zero_more}
+use Rattle.tree.proofs.Unpacking.{zero_more}
 use Rattle.tree.proofs.file.is_zero_from.Goals as goal
 
 pub loop-at-init : goal.loop-at-init

@@ -1,6 +1,5 @@
 -- `tree::file::layout_check` meets its contract: a line refuses, or leaves the next.
 -- Assumes nothing.
-use borrow.Author.Rules.{rules}
 use Rattle.refusal.proofs.Cases.{checks}
 use Rattle.tree.specs.File.{layout_check}
 use Rattle.tree.proofs.file.layout_check.Goals as goal

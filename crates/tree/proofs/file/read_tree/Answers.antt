@@ -4,7 +4,6 @@
 -- lines 1 and 2 have passed
 -- the joined contents, which the part of the buffer that is lent on holds
 -- every check has passed
-use borrow.Author.Rules.{rules}
 use Prim.Native.Nat.{ℕ, ◌+◌, ◌-◌, ◌≤◌}
 use mathlib.Core.Path.{◌≡◌, refl, sym, ap, ◌∙◌}
 use mathlib.Core.List.{List}
@@ -51,8 +50,8 @@ layout_check-requires c =
     let content_at : List ℕ = content (file_at) in
     let content-is : take c.join-len.result c.join-len.new.out ≡ content_at = joined_is _ _ _ _ c.join-len.ensures.0 c.join-len.ensures.1 in
     let content-size : 508 ≤ length (content_at) = let s = file_at in
-        let size = file-passed tree_format s (file-is) in
-        omega (arith, content-length s) in
+    let size = file-passed tree_format s (file-is) in
+    omega (arith, content-length s) in
     let size = content-size in rw (content-is) (omega arith)
 
 pub returns-in-Refused-layout_check : goal.returns-in-Refused-layout_check
@@ -95,8 +94,8 @@ count-k-requires c =
     let content_at : List ℕ = content (file_at) in
     let content-is : take c.join-len.result c.join-len.new.out ≡ content_at = joined_is _ _ _ _ c.join-len.ensures.0 c.join-len.ensures.1 in
     let content-size : 508 ≤ length (content_at) = let s = file_at in
-        let size = file-passed tree_format s (file-is) in
-        omega (arith, content-length s) in
+    let size = file-passed tree_format s (file-is) in
+    omega (arith, content-length s) in
     let size = content-size in rw (content-is) (omega arith)
 
 pub slice_bounds-copy-end : goal.slice_bounds-copy-end
@@ -109,7 +108,7 @@ slice_bounds-copy-end c =
     let layout-passes : layout_check (content_at) ≡ Passed = layout_is ∙ c.in_default-layout_check.is in
     let count-is : c.count-k.result ≡ count_of (content_at) = c.count-k.ensures.0 ∙ ap count_of (content-is) in
     let laid_out : (c.count-k.result ≤ 4096) × (4 + c.count-k.result ≤ length (content_at)) = let l = layout-passed _ (layout-passes) in
-        rw count-is (l.most, l.nodes) in
+    rw count-is (l.most, l.nodes) in
     rw (content-is) (laid_out).1
 
 pub copy-requires : goal.copy-requires
@@ -122,10 +121,10 @@ copy-requires c =
     let layout-passes : layout_check (content_at) ≡ Passed = layout_is ∙ c.in_default-layout_check.is in
     let count-is : c.count-k.result ≡ count_of (content_at) = c.count-k.ensures.0 ∙ ap count_of (content-is) in
     let laid_out : (c.count-k.result ≤ 4096) × (4 + c.count-k.result ≤ length (content_at)) = let l = layout-passed _ (layout-passes) in
-        rw count-is (l.most, l.nodes) in
+    rw count-is (l.most, l.nodes) in
     let nodes_are : take (4 + c.count-k.result - 4) (drop 4 (take c.join-len.result c.join-len.new.out))
-        ≡ nodes_of c.count-k.result (content_at) = let same : 4 + c.count-k.result - 4 ≡ c.count-k.result = omega arith in
-        rw (same, content-is) in
+    ≡ nodes_of c.count-k.result (content_at) = let same : 4 + c.count-k.result - 4 ≡ c.count-k.result = omega arith in
+    rw (same, content-is) in
     let nodes-size : length (nodes_of c.count-k.result (content_at)) ≡ c.count-k.result = nodes-length _ (content_at) laid_out.1 in
     rw (nodes_are, nodes-size, c.copy-arg-2-1.given.0.1) (laid_out).0
 
@@ -141,10 +140,10 @@ returns c =
     let body_is : body_check c.args.signature (content_at) ≡ c.body_check.result = sym (c.body_check.ensures ∙ ap (body_check _) (content-is)) in
     let count-is : c.count-k.result ≡ count_of (content_at) = c.count-k.ensures.0 ∙ ap count_of (content-is) in
     let laid_out : (c.count-k.result ≤ 4096) × (4 + c.count-k.result ≤ length (content_at)) = let l = layout-passed _ (layout-passes) in
-        rw count-is (l.most, l.nodes) in
+    rw count-is (l.most, l.nodes) in
     let nodes_are : take (4 + c.count-k.result - 4) (drop 4 (take c.join-len.result c.join-len.new.out))
-        ≡ nodes_of c.count-k.result (content_at) = let same : 4 + c.count-k.result - 4 ≡ c.count-k.result = omega arith in
-        rw (same, content-is) in
+    ≡ nodes_of c.count-k.result (content_at) = let same : 4 + c.count-k.result - 4 ≡ c.count-k.result = omega arith in
+    rw (same, content-is) in
     let nodes-size : length (nodes_of c.count-k.result (content_at)) ≡ c.count-k.result = nodes-length _ (content_at) laid_out.1 in
     let n = c in
     let body = body_is ∙ n.in_default-body_check.is in (

@@ -2,7 +2,6 @@
 -- Assumes nothing.
 -- lines 1 and 2 have passed
 -- the part of the buffer that is lent on holds the joined contents
-use borrow.Author.Rules.{rules}
 use Prim.Native.Nat.{◌≤◌}
 use mathlib.Core.Path.{◌≡◌, sym, ◌∙◌, subst}
 use native.Mathlib.Omega.{arith}
@@ -31,24 +30,24 @@ slice_bounds-clear_count-end c = let j = c.join-len in rw j.ensures.1 (simp leng
 pub slice_bounds-clear_count-end-2 : goal.slice_bounds-clear_count-end-2
 slice_bounds-clear_count-end-2 c =
     let content-is : take c.join-len.result c.join-len.new.out
-        ≡ content c.args.file.now = joined_is _ _ _ _ c.join-len.ensures.0 c.join-len.ensures.1 in
+    ≡ content c.args.file.now = joined_is _ _ _ _ c.join-len.ensures.0 c.join-len.ensures.1 in
     rw (content-is) c.join-len.ensures.0
 
 pub clear_count-requires : goal.clear_count-requires
 clear_count-requires c =
     let file-is : file_check tree_format c.args.file.now ≡ Passed = sym c.file_check.ensures ∙ c.in_default.is in
     let content-is : take c.join-len.result c.join-len.new.out
-        ≡ content c.args.file.now = joined_is _ _ _ _ c.join-len.ensures.0 c.join-len.ensures.1 in
+    ≡ content c.args.file.now = joined_is _ _ _ _ c.join-len.ensures.0 c.join-len.ensures.1 in
     let content-size : 4 ≤ length (content c.args.file.now) = let s = c.args.file.now in
-        let size = file-passed tree_format s (file-is) in
-        omega (arith, content-length s) in
+    let size = file-passed tree_format s (file-is) in
+    omega (arith, content-length s) in
     rw (content-is) (content-size)
 
 pub returns : goal.returns
 returns c some =
     let file-is : file_check tree_format c.args.file.now ≡ Passed = sym c.file_check.ensures ∙ c.in_default.is in
     let content-is : take c.join-len.result c.join-len.new.out
-        ≡ content c.args.file.now = joined_is _ _ _ _ c.join-len.ensures.0 c.join-len.ensures.1 in
+    ≡ content c.args.file.now = joined_is _ _ _ _ c.join-len.ensures.0 c.join-len.ensures.1 in
     let j = c in
     unpacked _ _ _ _ (file-is) (subst (λ p. Clear p c.clear_count.result) (content-is) (c.clear_count.ensures some))
     some j.join-len.ensures.1
