@@ -1,6 +1,5 @@
 -- `chains::chained` ends, after 32 turns.
 -- Assumes nothing.
-use borrow.Author.Rules.{rules}
 use Prim.Native.Nat.{◌-◌, ◌≤◌}
 use Rattle.chains.proofs.chained.Given as goal
 

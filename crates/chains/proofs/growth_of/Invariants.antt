@@ -1,6 +1,5 @@
 -- `chains::growth_of` ends, after one turn for each state.
 -- Assumes nothing.
-use borrow.Author.Rules.{rules}
 use Prim.Native.Nat.{◌-◌, ◌≤◌}
 use Rattle.chains.proofs.growth_of.Given as goal
 

@@ -1,6 +1,5 @@
 -- `chains::one_further` ends, after one turn for each state.
 -- Assumes nothing.
-use borrow.Author.Rules.{rules}
 use Prim.Native.Nat.{◌-◌, ◌≤◌}
 use Rattle.chains.proofs.one_further.Given as goal
 

@@ -1,6 +1,5 @@
 -- `chains::sum` ends, after one turn for each node.
 -- Assumes nothing.
-use borrow.Author.Rules.{rules}
 use Prim.Native.Nat.{◌-◌, ◌≤◌}
 use Rattle.chains.proofs.sum.Given as goal
 

@@ -1,6 +1,5 @@
 -- `large_trees::first_at` ends, at the last node at the latest.
 -- Assumes nothing.
-use borrow.Author.Rules.{rules}
 use Prim.Native.Nat.{◌-◌, ◌≤◌}
 use Rattle.large_trees.proofs.first_at.Given as goal
 

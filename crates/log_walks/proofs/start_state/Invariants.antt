@@ -1,6 +1,5 @@
 -- `log_walks::start_state` ends, at the last state at the latest.
 -- Assumes nothing.
-use borrow.Author.Rules.{rules}
 use Prim.Native.Nat.{◌-◌, ◌≤◌}
 use Rattle.log_walks.proofs.start_state.Given as goal
 

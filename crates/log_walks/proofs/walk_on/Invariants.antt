@@ -1,6 +1,5 @@
 -- `log_walks::walk_on` ends, at the last entry at the latest.
 -- Assumes nothing.
-use borrow.Author.Rules.{rules}
 use Prim.Native.Nat.{◌-◌}
 use mathlib.Core.Path.{◌≡◌}
 use lib.ListN.{length}

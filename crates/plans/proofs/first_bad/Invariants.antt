@@ -1,6 +1,5 @@
 -- `plans::first_bad` ends, after one turn for each row.
 -- Assumes nothing.
-use borrow.Author.Rules.{rules}
 use Prim.Native.Nat.{◌-◌, ◌≤◌}
 use Rattle.plans.proofs.first_bad.Given as goal
 

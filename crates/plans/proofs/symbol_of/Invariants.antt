@@ -1,6 +1,5 @@
 -- `plans::symbol_of` ends, after 32 symbols at most.
 -- Assumes nothing.
-use borrow.Author.Rules.{rules}
 use Prim.Native.Nat.{◌-◌, ◌≤◌}
 use Rattle.plans.proofs.symbol_of.Given as goal
 

@@ -1,6 +1,5 @@
 -- `repeats::contradicts` ends, after one turn for each earlier record.
 -- Assumes nothing.
-use borrow.Author.Rules.{rules}
 use Prim.Native.Nat.{◌-◌, ◌≤◌}
 use Rattle.repeats.proofs.contradicts.Given as goal
 

@@ -1,6 +1,5 @@
 -- `repeats::is_single` ends, after one turn for each record.
 -- Assumes nothing.
-use borrow.Author.Rules.{rules}
 use Prim.Native.Nat.{◌-◌, ◌≤◌}
 use Rattle.repeats.proofs.is_single.Given as goal
 

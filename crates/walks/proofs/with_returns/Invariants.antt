@@ -1,6 +1,5 @@
 -- `walks::with_returns` ends, after one turn for each count, and stays within its bounds.
 -- Assumes nothing.
-use borrow.Author.Rules.{rules}
 use Prim.Native.Nat.{◌-◌, ◌≤◌}
 use mathlib.Core.Path.{◌≡◌}
 use lib.ListN.{length}

@@ -1,6 +1,5 @@
 -- `crate::definition::column` ends, after the last word, and meets its contract: a byte is at most 255.
 -- Assumes nothing.
-use borrow.Author.Rules.{rules}
 use Prim.Native.Nat.{◌*◌, ◌-◌, ◌≤◌}
 use Rattle.block_files.proofs.definition.column.Given as goal
 

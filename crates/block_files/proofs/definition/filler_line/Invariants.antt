@@ -1,6 +1,5 @@
 -- `crate::definition::filler_line` ends, at the last offset at the latest.
 -- Assumes nothing.
-use borrow.Author.Rules.{rules}
 use Prim.Native.Nat.{◌-◌, ◌≤◌}
 use Rattle.block_files.proofs.definition.filler_line.Given as goal
 

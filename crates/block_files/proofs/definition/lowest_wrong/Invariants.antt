@@ -1,6 +1,5 @@
 -- `crate::definition::lowest_wrong` ends, after the last block, and meets its contract.
 -- Assumes nothing.
-use borrow.Author.Rules.{rules}
 use Prim.Native.Nat.{◌-◌, ◌≤◌}
 use Rattle.block_files.proofs.definition.lowest_wrong.Given as goal
 

@@ -1,6 +1,5 @@
 -- `chains::leaving::end_of` ends, after 65 nodes at most.
 -- Assumes nothing.
-use borrow.Author.Rules.{rules}
 use Prim.Native.Nat.{◌-◌, ◌≤◌}
 use Rattle.chains.proofs.leaving.end_of.Given as goal
 

@@ -1,6 +1,5 @@
 -- `chains::leaving::sweep` ends, after one turn for each node.
 -- Assumes nothing.
-use borrow.Author.Rules.{rules}
 use Prim.Native.Nat.{◌-◌}
 use mathlib.Core.Path.{◌≡◌}
 use lib.ListN.{length}

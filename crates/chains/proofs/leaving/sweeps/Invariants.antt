@@ -1,6 +1,5 @@
 -- `chains::leaving::sweeps` ends, after 24,577 sweeps at most.
 -- Assumes nothing.
-use borrow.Author.Rules.{rules}
 use Prim.Native.Nat.{◌-◌, ◌≤◌}
 use mathlib.Core.Path.{◌≡◌}
 use lib.ListN.{length}

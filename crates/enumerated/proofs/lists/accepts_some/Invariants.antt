@@ -1,6 +1,5 @@
 -- `enumerated::lists::accepts_some` ends, after one turn for each tree.
 -- Assumes nothing.
-use borrow.Author.Rules.{rules}
 use Prim.Native.Nat.{◌-◌, ◌≤◌}
 use Rattle.enumerated.proofs.lists.accepts_some.Given as goal
 

@@ -1,6 +1,5 @@
 -- `enumerated::lists::add_leaves` ends, after one turn for each symbol.
 -- Assumes nothing.
-use borrow.Author.Rules.{rules}
 use Prim.Native.Nat.{◌-◌, ◌≤◌}
 use mathlib.Core.Path.{◌≡◌}
 use lib.ListN.{length}

@@ -1,6 +1,5 @@
 -- `enumerated::lists::is_known` ends, after one turn for each class.
 -- Assumes nothing.
-use borrow.Author.Rules.{rules}
 use Prim.Native.Nat.{◌-◌, ◌≤◌}
 use Rattle.enumerated.proofs.lists.is_known.Given as goal
 

@@ -1,6 +1,5 @@
 -- `enumerated::plan::fill` ends, after one turn for each byte.
 -- Assumes nothing.
-use borrow.Author.Rules.{rules}
 use Prim.Native.Nat.{◌-◌, ◌≤◌}
 use mathlib.Core.Path.{◌≡◌}
 use lib.ListN.{length}

@@ -1,6 +1,5 @@
 -- `enumerated::plan::unchanged` ends, after one turn for each byte.
 -- Assumes nothing.
-use borrow.Author.Rules.{rules}
 use Prim.Native.Nat.{◌-◌, ◌≤◌}
 use Rattle.enumerated.proofs.plan.unchanged.Given as goal
 

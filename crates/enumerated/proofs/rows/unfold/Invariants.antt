@@ -1,6 +1,5 @@
 -- `enumerated::rows::unfold` ends, after 1,024 nodes at most.
 -- Assumes nothing.
-use borrow.Author.Rules.{rules}
 use Prim.Native.Nat.{◌-◌, ◌≤◌}
 use mathlib.Core.Path.{◌≡◌}
 use lib.ListN.{length}

@@ -1,6 +1,5 @@
 -- `followed::answer::count` ends, after 32 states.
 -- Assumes nothing.
-use borrow.Author.Rules.{rules}
 use Prim.Native.Nat.{◌-◌, ◌≤◌}
 use Rattle.followed.proofs.answer.count.Given as goal
 

@@ -1,6 +1,5 @@
 -- `followed::follow::configurations` ends, after one turn for each state.
 -- Assumes nothing.
-use borrow.Author.Rules.{rules}
 use Prim.Native.Nat.{◌-◌, ◌≤◌}
 use Rattle.followed.proofs.follow.configurations.Given as goal
 

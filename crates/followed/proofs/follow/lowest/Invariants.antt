@@ -1,6 +1,5 @@
 -- `followed::follow::lowest` ends, after 32 states at most.
 -- Assumes nothing.
-use borrow.Author.Rules.{rules}
 use Prim.Native.Nat.{◌-◌, ◌≤◌}
 use Rattle.followed.proofs.follow.lowest.Given as goal
 

@@ -1,6 +1,5 @@
 -- `crate::families::add_circles` ends, after one turn for each circle.
 -- Assumes nothing.
-use borrow.Author.Rules.{rules}
 use Prim.Native.Nat.{◌-◌, ◌≤◌}
 use mathlib.Core.Path.{◌≡◌}
 use lib.ListN.{length}

@@ -1,6 +1,5 @@
 -- `crate::guided::walk_on` ends, after one turn for each step.
 -- Assumes nothing.
-use borrow.Author.Rules.{rules}
 use Prim.Native.Nat.{◌-◌, ◌≤◌}
 use mathlib.Core.Path.{◌≡◌}
 use lib.ListN.{length}

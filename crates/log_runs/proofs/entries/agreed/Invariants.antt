@@ -1,6 +1,5 @@
 -- `log_runs::entries::agreed` ends, at the last entry at the latest.
 -- Assumes nothing.
-use borrow.Author.Rules.{rules}
 use Prim.Native.Nat.{◌-◌, ◌≤◌}
 use Rattle.log_runs.proofs.entries.agreed.Given as goal
 

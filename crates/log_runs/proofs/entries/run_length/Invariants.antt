@@ -1,6 +1,5 @@
 -- `log_runs::entries::run_length` ends, at the last entry at the latest.
 -- Assumes nothing.
-use borrow.Author.Rules.{rules}
 use Prim.Native.Nat.{◌-◌, ◌≤◌}
 use Rattle.log_runs.proofs.entries.run_length.Given as goal
 

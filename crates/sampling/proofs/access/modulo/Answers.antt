@@ -1,6 +1,5 @@
 -- `crate::access::modulo` meets its contract: a remainder is below the divisor.
 -- Assumes nothing.
-use borrow.Author.Rules.{rules}
 use native.Mathlib.Omega.{arith}
 use native.Mathlib.Nat.{mod-lt}
 use Rattle.sampling.proofs.access.modulo.Goals as goal

@@ -1,6 +1,5 @@
 -- `crate::counting::add_all_counting` ends, after 80 turns.
 -- Assumes nothing.
-use borrow.Author.Rules.{rules}
 use Prim.Native.Nat.{◌-◌, ◌≤◌}
 use mathlib.Core.Path.{◌≡◌}
 use lib.ListN.{length}

@@ -1,6 +1,5 @@
 -- `crate::random::seed` ends, after twelve numbers.
 -- Assumes nothing.
-use borrow.Author.Rules.{rules}
 use Prim.Native.Nat.{◌-◌, ◌≤◌}
 use Rattle.sampling.proofs.random.seed.Given as goal
 

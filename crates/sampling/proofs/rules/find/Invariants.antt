@@ -1,6 +1,5 @@
 -- `crate::rules::find` ends, after one turn for each rule.
 -- Assumes nothing.
-use borrow.Author.Rules.{rules}
 use Prim.Native.Nat.{◌-◌, ◌≤◌}
 use Rattle.sampling.proofs.rules.find.Given as goal
 

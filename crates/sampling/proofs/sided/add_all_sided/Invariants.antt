@@ -1,6 +1,5 @@
 -- `crate::sided::add_all_sided` ends, after 192 turns.
 -- Assumes nothing.
-use borrow.Author.Rules.{rules}
 use Prim.Native.Nat.{◌-◌, ◌≤◌}
 use mathlib.Core.Path.{◌≡◌}
 use lib.ListN.{length}

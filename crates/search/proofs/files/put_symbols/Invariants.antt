@@ -1,6 +1,6 @@
 -- `crate::files::put_symbols` ends, after one turn for each node.
 -- Assumes nothing.
-use Rattle.std.proofs.Common.{◌≡◌, ◌-◌, ◌≤◌, length, rules}
+use Rattle.std.proofs.Common.{◌≡◌, ◌-◌, ◌≤◌, length}
 use Rattle.search.proofs.files.put_symbols.Given as goal
 
 abbrev pub invariant-loop-i : goal.invariant-loop-i

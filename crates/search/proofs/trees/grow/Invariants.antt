@@ -1,6 +1,6 @@
 -- `crate::trees::grow` ends, after 1,024 nodes at most.
 -- Assumes nothing.
-use Rattle.std.proofs.Common.{◌≡◌, ◌-◌, ◌≤◌, length, rules}
+use Rattle.std.proofs.Common.{◌≡◌, ◌-◌, ◌≤◌, length}
 use Rattle.search.proofs.trees.grow.Given as goal
 
 abbrev pub invariant-loop-node : goal.invariant-loop-node

@@ -1,6 +1,6 @@
 -- `crate::walk::round` ends, after one turn for each node.
 -- Assumes nothing.
-use Rattle.std.proofs.Common.{◌≡◌, ◌-◌, ◌≤◌, length, rules}
+use Rattle.std.proofs.Common.{◌≡◌, ◌-◌, ◌≤◌, length}
 use Rattle.search.proofs.walk.round.Given as goal
 
 abbrev pub invariant-loop-node : goal.invariant-loop-node

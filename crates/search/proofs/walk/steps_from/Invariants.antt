@@ -1,6 +1,6 @@
 -- `crate::walk::steps_from` ends, after one turn for each rule.
 -- Assumes nothing.
-use Rattle.std.proofs.Common.{◌≡◌, ◌-◌, ◌≤◌, length, rules}
+use Rattle.std.proofs.Common.{◌≡◌, ◌-◌, ◌≤◌, length}
 use Rattle.search.proofs.walk.steps_from.Given as goal
 
 abbrev pub invariant-loop-rule : goal.invariant-loop-rule

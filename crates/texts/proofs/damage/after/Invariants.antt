@@ -1,6 +1,5 @@
 -- `texts::damage::after` ends, at the last byte at the latest.
 -- Assumes nothing.
-use borrow.Author.Rules.{rules}
 use Prim.Native.Nat.{◌-◌, ◌≤◌}
 use Rattle.texts.proofs.damage.after.Given as goal
 

@@ -1,6 +1,5 @@
 -- `texts::forest::branch_symbol` ends, after 32 symbols at most.
 -- Assumes nothing.
-use borrow.Author.Rules.{rules}
 use Prim.Native.Nat.{◌-◌, ◌≤◌}
 use Rattle.texts.proofs.forest.branch_symbol.Given as goal
 

@@ -1,6 +1,5 @@
 -- `watch_trials::lent::fill` ends, after the last byte, and stays within the log.
 -- Assumes nothing.
-use borrow.Author.Rules.{rules}
 use Prim.Native.Nat.{◌-◌, ◌≤◌}
 use mathlib.Core.Path.{◌≡◌}
 use lib.ListN.{length}

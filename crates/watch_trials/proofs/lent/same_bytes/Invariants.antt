@@ -1,6 +1,5 @@
 -- `watch_trials::lent::same_bytes` ends, at the last byte at the latest, and stays within both logs.
 -- Assumes nothing.
-use borrow.Author.Rules.{rules}
 use Prim.Native.Nat.{◌-◌, ◌≤◌}
 use lib.ListN.{length}
 use Rattle.watch_trials.proofs.lent.same_bytes.Given as goal
