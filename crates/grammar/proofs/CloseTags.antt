@@ -3,10 +3,10 @@
 use Prim.Native.Nat.{ℕ, ◌+◌, ◌/◌, ◌%◌, ◌<◌, ◌≤◌}
 use native.Mathlib.Omega.{arith}
 use mathlib.Core.Path.{◌≡◌, refl}
-use mathlib.Core.Bool.{Bool, true, false, not}
+use mathlib.Core.Bool.{Bool, true, false}
 use mathlib.Core.List.{List, [], ◌∷◌, ◌++◌}
 use lib.ListN.{length, get_or}
-use borrow.Author.Tests.{lt-ltb, le-ltb, not-true, not-false}
+use borrow.Author.Tests.{lt-ltb, le-ltb}
 use Rattle.tags.proofs.ClassLaws.{class-slash}
 use Rattle.tags.specs.Classes.{class_of}
 use Rattle.grammar.specs.Grammar.{written}
@@ -106,11 +106,11 @@ module _ (s : List ℕ) (at n : ℕ) (h : CloseAt s at) where
               goes = λ stack. rw p (trans (long-2 stack) (byte-go s (at + 4) 62 [] stack j));
             }
 
-pub byte-no : (s : List ℕ) (at b : ℕ) (t : Bool) → not t ≡ true → IsByte s at b t → IsByte s at b false
-byte-no s at b t e h = rw (not-true t e) at h
+pub byte-no : (s : List ℕ) (at b : ℕ) (t : Bool) → t ≡ false → IsByte s at b t → IsByte s at b false
+byte-no s at b t e h = rw e at h
 
-pub byte-yes : (s : List ℕ) (at b : ℕ) (t : Bool) → not t ≡ false → IsByte s at b t → IsByte s at b true
-byte-yes s at b t e h = rw (not-false t e) at h
+pub byte-yes : (s : List ℕ) (at b : ℕ) (t : Bool) → t ≡ true → IsByte s at b t → IsByte s at b true
+byte-yes s at b t e h = rw e at h
 
 -- a closing tag where nothing is open
 pub root-closed : (s : List ℕ) (at : ℕ) → CloseAt s at → Stuck s at (between []) (at + 1)

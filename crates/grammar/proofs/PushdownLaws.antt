@@ -266,10 +266,10 @@ alive-begins p a = begins-alive p (steps (between []) p) (reached-steps [] (betw
 
 -- it is between tags with nothing open: p is a run's text
 pub between-writes : (p : List ℕ) → steps (between []) p ≡ between [] → (r : Elements) × Writes p r
-between-writes p e = go (rw e at (reached-steps [] (between []) p start))
+between-writes p e = go p (rw e at (reached-steps [] (between []) p start))
   where
-    go : Opened p [] → (r : Elements) × Writes p r
-    go (root {r = r} w) = (r, w)
+    go : (q : List ℕ) → Opened q [] → (r : Elements) × Writes q r
+    go q (root {r = r} w) = (r, w)
 
 dead-steps : (s : List ℕ) → steps dead s ≡ dead
 unfolding steps step

@@ -8,7 +8,7 @@ use lib.ListN.{length, take}
 use lib.Seq.{take-length}
 use lib.Arith.{lt_of_le-ne}
 use Rattle.tags.proofs.ClassLaws.{space-less}
-use Rattle.grammar.specs.Grammar.{Elements, blank, Text, WrongAt}
+use Rattle.grammar.specs.Grammar.{Elements, Text, WrongAt}
 use Rattle.grammar.specs.Pushdown.{Configuration, between, steps, Goes, here, on}
 use Rattle.grammar.proofs.PushdownLaws.{alive-begins, between-writes}
 use Rattle.grammar.proofs.Decided.{next-steps, wrong-there, less-in, some_at}

@@ -1,6 +1,5 @@
 -- `grammar::class_at` meets its contract.
 -- Assumes nothing.
-use borrow.Author.Rules.{rules}
 use borrow.Author.Tests.{lt-ltb, le-ltb}
 use Rattle.grammar.specs.Reading.{class_at}
 use Rattle.grammar.proofs.class_at.Goals as goal

@@ -1,6 +1,5 @@
 -- `grammar::closed` meets its contract.
 -- Assumes nothing.
-use borrow.Author.Rules.{rules}
 use Rattle.grammar.proofs.closed.Goals as goal
 
 pub returns-in-To : goal.returns-in-To

@@ -1,6 +1,5 @@
 -- `grammar::is_byte` meets its contract.
 -- Assumes nothing.
-use borrow.Author.Rules.{rules}
 use native.Mathlib.Omega.{arith}
 use Rattle.grammar.proofs.Going.{byte-is}
 use Rattle.grammar.proofs.is_byte.Goals as goal

@@ -1,6 +1,5 @@
 -- `grammar::opened` meets its contract.
 -- Assumes nothing.
-use borrow.Author.Rules.{rules}
 use Rattle.grammar.proofs.opened.Goals as goal
 
 pub returns-in-Named : goal.returns-in-Named

@@ -7,8 +7,6 @@ use Prim.Native.Nat.{◌+◌}
 use mathlib.Core.Path.{ap, ◌∙◌}
 use lib.Arith.{lt_of_le-ne}
 use Rattle.blocks.specs.declared.Found.{Found}
-use Rattle.grammar.specs.Reading.{RunRead}
-use Rattle.grammar.specs.declared.Reading.{Reading}
 use Rattle.grammar.specs.declared.Parse.{Parse}
 use Rattle.grammar.proofs.Decided.{told}
 use Rattle.grammar.proofs.Filling.{filled-room, on-filled, nothing-filled, end-filled}
@@ -16,7 +14,7 @@ use Rattle.grammar.proofs.Whole.{spaces-wrong, text-right, text-closed, text-stu
 use Rattle.grammar.proofs.read_text.Goals as goal
 
 pub skip-first-requires : goal.skip-first-requires
-skip-first-requires c = (search rules, c.class_table-classes.ensures)
+skip-first-requires c = record { at_in_bounds = search rules; table = c.class_table-classes.ensures }
 
 pub returns-then-first-text : goal.returns-then-first-text
 returns-then-first-text c = (told _ (Found.At c.skip-first.result) _ (spaces-wrong c.if-first-text.true c.skip-first.ensures), tt)
@@ -25,43 +23,41 @@ pub run-requires : goal.run-requires
 run-requires c =
     let k = c.skip-first.ensures in
     let q = c.requires in
-    (k.to, (c.class_table-classes.ensures, on-filled (nothing-filled _ _ q.0 q.1) k.from k.nodes))
+    record { at_in_bounds = k.to; table = c.class_table-classes.ensures; filled = on-filled (nothing-filled _ _ q.0 q.1) k.from k.nodes }
 
 pub read_deep-requires : goal.read_deep-requires
 read_deep-requires c =
     let q = c.requires in
     let k = c.skip-first.ensures in
-    ((q.0, rw c.in-Deep.is at c.run.ensures, k, lt_of_le-ne k.to c.if-first-text.false), c.class_table-classes.ensures)
+    record { text_len_bound = (q.0, c.in-Deep.ensures, k, lt_of_le-ne k.to c.if-first-text.false); table = c.class_table-classes.ensures }
 
 pub overflow_add-result : goal.overflow_add-result
 overflow_add-result c =
-    let passed : RunRead c.args.text.now c.skip-first.result c.run.new.count c.run.new.nodes (Reading.To c.in-To.end) = rw c.in-To.is at c.run.ensures in
-    let p = (passed).0.passed in omega (arith, p.to)
+    let passed = c.in-To.ensures in
+    let p = passed.0.passed in omega (arith, p.to)
 
 pub returns-then-end-text : goal.returns-then-end-text
 returns-then-end-text c =
-    let passed : RunRead c.args.text.now c.skip-first.result c.run.new.count c.run.new.nodes (Reading.To c.in-To.end) = rw c.in-To.is at c.run.ensures in
-    let d = c in
-    (told _ (Found.At (d.in-To.end + 1)) _ (text-closed d.skip-first.ensures (passed).0 c.if-end-text.true), tt)
+    let passed = c.in-To.ensures in
+    (told _ (Found.At (c.in-To.end + 1)) _ (text-closed c.skip-first.ensures passed.0 c.if-end-text.true), tt)
 
 pub bounds-nodes-count : goal.bounds-nodes-count
 bounds-nodes-count c =
-    let passed : RunRead c.args.text.now c.skip-first.result c.run.new.count c.run.new.nodes (Reading.To c.in-To.end) = rw c.in-To.is at c.run.ensures in
+    let passed = c.in-To.ensures in
     let p = passed in filled-room p.1 p.0.passed.to
 
 pub overflow_add-result-in-To : goal.overflow_add-result-in-To
 overflow_add-result-in-To c =
-    let passed : RunRead c.args.text.now c.skip-first.result c.run.new.count c.run.new.nodes (Reading.To c.in-To.end) = rw c.in-To.is at c.run.ensures in
+    let passed = c.in-To.ensures in
     let p = passed in let h = filled-room p.1 p.0.passed.to in omega arith
 
 pub returns-in-Wrong : goal.returns-in-Wrong
-returns-in-Wrong c = (told _ (Found.At c.in-Wrong.place) _ (text-stuck c.skip-first.ensures (rw c.in-Wrong.is at c.run.ensures)), tt)
+returns-in-Wrong c = (told _ (Found.At c.in-Wrong.place) _ (text-stuck c.skip-first.ensures c.in-Wrong.ensures), tt)
 
 pub returns-else-end-text : goal.returns-else-end-text
 returns-else-end-text c =
-    let passed : RunRead c.args.text.now c.skip-first.result c.run.new.count c.run.new.nodes (Reading.To c.in-To.end) = rw c.in-To.is at c.run.ensures in
-    let d = c in
+    let passed = c.in-To.ensures in
     let p = passed in
-    let e = end-filled p.1 c.if2.false in
-    let t = text-right d.skip.ensures d.if1.false p.0 c.if2.false in
+    let e = end-filled p.1 c.if-end-text.false in
+    let t = text-right c.skip-first.ensures c.if-first-text.false p.0 c.if-end-text.false in
     (ap Parse.Nodes e.0 ∙ told _ Found.Nothing _ t, e.1)

@@ -1,6 +1,5 @@
 -- `grammar::shut` meets its contract.
 -- Assumes nothing.
-use borrow.Author.Rules.{rules}
 use Rattle.grammar.proofs.shut.Goals as goal
 
 pub returns-in-To : goal.returns-in-To

@@ -2,15 +2,10 @@
 -- Assumes nothing.
 use borrow.Author.Rules.{rules}
 use native.Mathlib.Omega.{arith}
-use Prim.Native.Nat.{ℕ, ◌-◌, ◌<◌, ◌≤◌}
-use mathlib.Core.Path.{◌≡◌, refl, sym, ◌∙◌}
-use mathlib.Core.List.{List}
-use lib.ListN.{length, get_or, drop}
-use Rattle.tags.specs.Tags.{nodes_in}
+use mathlib.Core.Path.{refl, sym, ◌∙◌}
 use Rattle.tags.proofs.Listed.{nodes-on}
 use Rattle.tags.proofs.ClassLaws.{space-less}
-use Rattle.grammar.specs.Pushdown.{between, Goes, here}
-use Rattle.tags.specs.Classes.{class_of}
+use Rattle.grammar.specs.Pushdown.{here}
 use Rattle.grammar.proofs.Going.{trans, space-go, one_more}
 use Rattle.grammar.proofs.skip.Goals as goal
 
@@ -18,7 +13,7 @@ pub loop-next-init : goal.loop-next-init
 loop-next-init c = (search rules, search rules, λ stack. here, λ i l h. absurd (omega arith), refl)
 
 pub class_in-requires : goal.class_in-requires
-class_in-requires c = c.requires.1
+class_in-requires c = c.requires.table
 
 pub returns-then-class_in-ne-SPACE : goal.returns-then-class_in-ne-SPACE
 returns-then-class_in-ne-SPACE c =

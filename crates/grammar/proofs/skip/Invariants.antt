@@ -1,17 +1,12 @@
 -- `grammar::skip` meets its contract.
 -- Assumes nothing.
-use borrow.Author.Rules.{rules}
-use native.Mathlib.Omega.{arith}
 use Prim.Native.Nat.{ℕ, ◌-◌, ◌<◌, ◌≤◌}
-use mathlib.Core.Path.{◌≡◌, refl, sym, ◌∙◌}
+use mathlib.Core.Path.{◌≡◌}
 use mathlib.Core.List.{List}
 use lib.ListN.{length, get_or, drop}
 use Rattle.tags.specs.Tags.{nodes_in}
-use Rattle.tags.proofs.Listed.{nodes-on}
-use Rattle.tags.proofs.ClassLaws.{space-less}
-use Rattle.grammar.specs.Pushdown.{between, Goes, here}
+use Rattle.grammar.specs.Pushdown.{between, Goes}
 use Rattle.tags.specs.Classes.{class_of}
-use Rattle.grammar.proofs.Going.{trans, space-go, one_more}
 use Rattle.grammar.proofs.skip.Given as goal
 
 abbrev pub invariant-loop-next : goal.invariant-loop-next

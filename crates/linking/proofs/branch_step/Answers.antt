@@ -2,7 +2,6 @@
 -- Assumes nothing.
 use native.Mathlib.Omega.{arith}
 use Rattle.linking.proofs.Steps.{branch-on}
-use borrow.Author.Rules.{rules}
 use Rattle.linking.proofs.branch_step.Goals as goal
 
 pub returns : goal.returns

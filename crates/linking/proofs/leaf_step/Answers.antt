@@ -1,7 +1,6 @@
 -- `linking::leaf_step` meets its contract.
 -- Assumes nothing.
 use Rattle.linking.proofs.Steps.{leaf-on}
-use borrow.Author.Rules.{rules}
 use Rattle.linking.proofs.leaf_step.Goals as goal
 
 pub returns : goal.returns

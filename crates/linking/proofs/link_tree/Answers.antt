@@ -2,13 +2,12 @@
 -- Assumes nothing.
 use borrow.Author.Tests.{eqb-true}
 use Rattle.linking.proofs.Steps.{begun, ended}
-use Rattle.linking.specs.Placed.{Loaded}
 use Rattle.passes.proofs.Laws.{from}
 use Rattle.nodes.proofs.Reached.{symbol-here}
 use native.Mathlib.Omega.{arith}
 use mathlib.Core.Path.{◌≡◌, refl, sym, ◌∙◌}
-use Prim.Native.Nat.{ℕ, ◌≤◌}
-use lib.ListN.{length, drop, length-drop}
+use Prim.Native.Nat.{ℕ}
+use lib.ListN.{length-drop}
 use borrow.Author.Rules.{rules}
 use Rattle.linking.proofs.link_tree.Goals as goal
 
@@ -19,7 +18,7 @@ pub returns-in_default : goal.returns-in_default
 returns-in_default c = λ e. let z : ◌≡◌ {A = ℕ} 0 1 = cc in absurd (omega arith)
 
 pub loop-at-preserved : goal.loop-at-preserved
-loop-at-preserved c = let v = c.loop-at.invariant in let here = symbol-here _ _ _ (sym c.in-Node.is ∙ c.read_at.ensures) in (omega (arith, v.0), c.parents-1.given ∙ v.1, c.rights-1.given ∙ v.2, rw (from _ _ (omega (arith, c.loop-at-test.true)) v.0, ← here.1) (rw c.in-On.is at (c.node_step.ensures _ _ (omega (arith, v.0, c.loop-at-test.true, length-drop c.loop-at.at c.args.symbols.now)) v.3)))
+loop-at-preserved c = let v = c.loop-at.invariant in let here = symbol-here _ _ _ (sym c.in-Node.is ∙ c.read_at.ensures) in (omega (arith, v.0), c.node_step.auto.parents ∙ v.1, c.node_step.auto.rights ∙ v.2, rw (from _ _ (omega (arith, c.loop-at-test.true)) v.0, ← here.1) (rw c.in-On.is at (c.node_step.ensures _ _ (omega (arith, v.0, c.loop-at-test.true, length-drop c.loop-at.at c.args.symbols.now)) v.3)))
 
 pub returns-in-Off : goal.returns-in-Off
 returns-in-Off c = λ e. let z : ◌≡◌ {A = ℕ} 0 1 = cc in absurd (omega arith)

@@ -1,15 +1,9 @@
 -- `linking::link_tree` meets its contract. The invariant: the stack and the tables tell of the trees that the list writes from a node on.
 -- Assumes nothing.
-use borrow.Author.Tests.{eqb-true}
-use Rattle.linking.proofs.Steps.{begun, ended}
 use Rattle.linking.specs.Placed.{Loaded}
-use Rattle.passes.proofs.Laws.{from}
-use Rattle.nodes.proofs.Reached.{symbol-here}
-use native.Mathlib.Omega.{arith}
-use mathlib.Core.Path.{◌≡◌, refl, sym, ◌∙◌}
-use Prim.Native.Nat.{ℕ, ◌≤◌}
-use lib.ListN.{length, drop, length-drop}
-use borrow.Author.Rules.{rules}
+use mathlib.Core.Path.{◌≡◌}
+use Prim.Native.Nat.{◌≤◌}
+use lib.ListN.{length, drop}
 use Rattle.linking.proofs.link_tree.Given as goal
 
 abbrev pub invariant-loop-at : goal.invariant-loop-at

@@ -2,7 +2,6 @@
 -- Assumes nothing.
 use mathlib.Core.Path.{sym, ◌∙◌}
 use native.Mathlib.Omega.{arith}
-use borrow.Author.Rules.{rules}
 use Rattle.linking.proofs.node_step.Goals as goal
 
 pub returns-then-is_branch : goal.returns-then-is_branch

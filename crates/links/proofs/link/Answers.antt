@@ -1,6 +1,5 @@
 -- `links::link` meets its contract: the whole tree is the part at node 0.
 -- Assumes nothing.
-use borrow.Author.Rules.{rules}
 use native.Mathlib.Omega.{arith}
 use mathlib.Core.Path.{◌∙◌}
 use Rattle.model.specs.Trees.{size}

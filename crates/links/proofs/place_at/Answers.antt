@@ -1,6 +1,5 @@
 -- `links::place_at` meets its contract.
 -- Assumes nothing.
-use borrow.Author.Rules.{rules}
 use borrow.Author.Tests.{eq-eqb, ne_eqb}
 use native.Mathlib.Omega.{arith}
 use Rattle.links.specs.Links.{place_in}
@@ -11,10 +10,10 @@ unfolding place_in
 returns-then-node-eq0 c = rw (eq-eqb _ 0 c.if-node-eq0.true)
 
 pub overflow_cast-parents : goal.overflow_cast-parents
-overflow_cast-parents c = omega (arith, c.shared_slice_known-1.given c.args.node)
+overflow_cast-parents c = omega (arith, c.type_inv.parents c.args.node)
 
 pub overflow_add-parents : goal.overflow_add-parents
-overflow_add-parents c = omega (arith, c.shared_slice_known-1.given c.args.node)
+overflow_add-parents c = omega (arith, c.type_inv.parents c.args.node)
 
 pub returns-then-parents-node : goal.returns-then-parents-node
 unfolding place_in

@@ -3,7 +3,6 @@
 use Rattle.passes.proofs.Stacks.{merged}
 use mathlib.Core.Path.{refl}
 use native.Mathlib.Omega.{arith}
-use borrow.Author.Rules.{rules}
 use Rattle.passes.proofs.merge.Goals as goal
 
 pub returns : goal.returns

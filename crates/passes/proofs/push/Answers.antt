@@ -2,7 +2,6 @@
 -- Assumes nothing.
 use Rattle.passes.proofs.Stacks.{pushed}
 use native.Mathlib.Omega.{arith}
-use borrow.Author.Rules.{rules}
 use Rattle.passes.proofs.push.Goals as goal
 
 pub returns : goal.returns

@@ -1,14 +1,9 @@
 -- `steps::choose` meets its contract. The invariant: each cell that was passed has its choice.
 -- Assumes nothing.
 use native.Mathlib.Omega.{arith}
-use Prim.Native.Nat.{ℕ, ◌-◌, ◌≤◌, ◌<◌}
-use mathlib.Core.Path.{◌≡◌, refl}
-use lib.ListN.{length, get_or}
-use Rattle.steps.specs.Choices.{code_at}
+use mathlib.Core.Path.{refl}
 use Rattle.steps.proofs.Choosing.{filled, filled_next}
 use borrow.Author.Rules.{rules}
-use Rattle.steps.proofs.choose.Reads as reads
-use Rattle.steps.proofs.code_at.Reads as code-at-reads
 use Rattle.steps.proofs.choose.Goals as goal
 
 pub loop-cell-init : goal.loop-cell-init

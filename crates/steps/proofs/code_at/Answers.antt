@@ -3,9 +3,6 @@
 use mathlib.Core.Path.{refl, ap, ◌∙◌}
 use Prim.Native.Nat.{ℕ, ◌+◌}
 use Rattle.steps.proofs.Choosing.{code-stay, code_up, code-left, code-right, code-none}
-use borrow.Author.Rules.{rules}
-use Rattle.steps.proofs.code_at.Reads as reads
-use Rattle.steps.proofs.lowest.Reads as lowest-reads
 use Rattle.steps.proofs.code_at.Goals as goal
 
 pub returns-then-stay-ne0 : goal.returns-then-stay-ne0

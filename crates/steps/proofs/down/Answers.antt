@@ -4,12 +4,10 @@ use borrow.Author.Tests.{ne_eqb, lt-ltb, le-ltb}
 use native.Mathlib.Omega.{arith}
 use Rattle.steps.specs.Choices.{decoded}
 use Rattle.steps.proofs.Choosing.{leaf-stays}
-use borrow.Author.Rules.{rules}
-use Rattle.steps.proofs.down.Reads as reads
 use Rattle.steps.proofs.down.Goals as goal
 
 pub overflow_cast-right : goal.overflow_cast-right
-overflow_cast-right c = omega (arith, c.shared_slice_known-1.given c.args.node)
+overflow_cast-right c = omega (arith, c.type_inv.rights c.args.node)
 
 pub returns-then-right-eq0 : goal.returns-then-right-eq0
 returns-then-right-eq0 c = let q = c.requires in λ parents. leaf-stays parents _ _ _ q.2 q.3 c.if-right-eq0.true

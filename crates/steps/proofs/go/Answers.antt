@@ -3,10 +3,6 @@
 use borrow.Author.Tests.{lt-ltb, le-ltb}
 use native.Mathlib.Omega.{arith}
 use Rattle.steps.specs.Choices.{decoded}
-use borrow.Author.Rules.{rules}
-use Rattle.steps.proofs.go.Reads as reads
-use Rattle.steps.proofs.down.Reads as down-reads
-use Rattle.steps.proofs.up.Reads as up-reads
 use Rattle.steps.proofs.go.Goals as goal
 
 pub returns-then-code-lt32 : goal.returns-then-code-lt32

@@ -4,7 +4,6 @@ use lib.Count.{trailing_le}
 use mathlib.Core.Path.{refl}
 use Rattle.relation.specs.Lowest.{lowest_of}
 use borrow.Author.Rules.{rules}
-use Rattle.steps.proofs.lowest.Reads as reads
 use Rattle.steps.proofs.lowest.Goals as goal
 
 pub overflow_cast-result : goal.overflow_cast-result

@@ -6,11 +6,6 @@ use lib.ListN.{get_or}
 use Rattle.model.specs.declared.Place.{Place}
 use Rattle.steps.specs.Choices.{decoded, choice_cell}
 use Rattle.steps.specs.Successors.{goes}
-use borrow.Author.Rules.{rules}
-use Rattle.steps.proofs.step.Reads as reads
-use Rattle.links.proofs.place_at.Reads as place-at-reads
-use Rattle.steps.proofs.choice_cell.Reads as choice-cell-reads
-use Rattle.steps.proofs.go.Reads as go-reads
 use Rattle.steps.proofs.step.Goals as goal
 
 pub returns : goal.returns
@@ -18,5 +13,5 @@ returns c =
     let a = c.args in
     c.go.ensures
     ∙ ap (λ (k : ℕ). goes a.parents.now a.rights.now a.node (decoded (get_or a.choices.now k 0)))
-    (c.choice-cell.ensures.0
-    ∙ ap (λ (τ : Place). choice_cell (get_or a.nodes.now a.node 0) τ a.state.0) c.place_at.ensures)
+    (c.choice_cell-cell.ensures.0
+    ∙ ap (λ (τ : Place). choice_cell (get_or a.nodes.now a.node 0) τ a.state.0) c.place_at-place.ensures)

@@ -3,8 +3,6 @@
 use borrow.Author.Tests.{eq-eqb, ne_eqb, lt-ltb, le-ltb}
 use native.Mathlib.Omega.{arith}
 use Rattle.steps.specs.Choices.{decoded}
-use borrow.Author.Rules.{rules}
-use Rattle.steps.proofs.up.Reads as reads
 use Rattle.steps.proofs.up.Goals as goal
 
 pub returns-then-node-eq0 : goal.returns-then-node-eq0
@@ -12,7 +10,7 @@ unfolding decoded
 returns-then-node-eq0 c = let q = c.requires in λ rights. rw (le-ltb _ 32 q.1, lt-ltb _ 64 q.2, eq-eqb _ 0 c.if-node-eq0.true)
 
 pub overflow_cast-result : goal.overflow_cast-result
-overflow_cast-result c = omega (arith, c.shared_slice_known-1.given c.args.node)
+overflow_cast-result c = omega (arith, c.type_inv.parents c.args.node)
 
 pub returns : goal.returns
 unfolding decoded

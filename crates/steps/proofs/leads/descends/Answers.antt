@@ -4,11 +4,10 @@ use native.Mathlib.Omega.{arith}
 use mathlib.Core.Path.{refl}
 use borrow.Author.Tests.{ne_eqb}
 use Rattle.steps.proofs.Leading.{no_part}
-use borrow.Author.Rules.{rules}
 use Rattle.steps.proofs.leads.descends.Goals as goal
 
 pub overflow_cast-right : goal.overflow_cast-right
-overflow_cast-right c = omega (arith, c.shared_slice_known-1.given c.args.node)
+overflow_cast-right c = omega (arith, c.type_inv.rights c.args.node)
 
 pub returns-then-right-eq0 : goal.returns-then-right-eq0
 returns-then-right-eq0 c =

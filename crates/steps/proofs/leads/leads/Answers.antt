@@ -5,7 +5,6 @@ use Rattle.model.specs.declared.Side.TheVariants.{Left}
 use Rattle.model.specs.declared.Move.TheVariants.{Stay, Up, Down}
 use Rattle.transitions.specs.Compiled.{next_in}
 use Rattle.steps.proofs.Leading.{found-move, last-move}
-use borrow.Author.Rules.{rules}
 use Rattle.steps.proofs.leads.leads.Goals as goal
 
 pub returns-then-leads_by : goal.returns-then-leads_by

@@ -1,7 +1,6 @@
 -- `steps::leads::moves` meets its contract: case by case.
 -- Assumes nothing.
 use mathlib.Core.Path.{refl}
-use borrow.Author.Rules.{rules}
 use Rattle.steps.proofs.leads.moves.Goals as goal
 
 pub returns-in-Stay : goal.returns-in-Stay
