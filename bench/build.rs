@@ -1,5 +1,5 @@
-//! Links target/staticlib/libreading.a of the repository, which `rt staticlib reading` writes, where the feature `engine` is on, and libearlier.a,
-//! which `bench/earlier` writes, where `earlier` is.
+//! Links target/staticlib/libreading.a of the repository, which `tools/staticlib reading` writes, where the feature `engine` is on, and
+//! libearlier.a, which `bench/earlier` writes, where `earlier` is.
 use std::{env, path::Path};
 
 fn main() {

@@ -1,7 +1,7 @@
-/* The engine for tree-walking automata: target/staticlib/libengine.a, which `rt staticlib engine` writes (x86-64 Linux).
+/* The engine for tree-walking automata: target/staticlib/libengine.a, which `tools/staticlib engine` writes (x86-64 Linux).
  *
  * Automata and trees are given as the bytes of their files (document 01's walker and letter files; docs/REFUSALS.md has both layouts and
- * the refusals). Every function answers every input: a bad file gets its refusal. The contracts are in crates/engine/src/numbers.rt, the
+ * the refusals). Every function answers every input: a bad file gets its refusal. The contracts are in crates/engine_c/src/lib.rt, the
  * encodings in crates/numbering/specs/Numbers.antt.
  *
  * Pointers. A pointer with a length points at so many bytes, or more; it is never null, also where the length is 0. A pointer to numbers

@@ -4,6 +4,12 @@ missing, and that lost output makes it fail."""
 import os, shutil, subprocess, tempfile, unittest
 
 HERE = os.path.dirname(os.path.abspath(__file__))
+# Says that it runs the program, which then ends as it likes.
+TOOLCHAIN = '''#!/bin/sh
+[ "$(pwd)" = "$ROOT/project/crates/report" ] && [ "$*" = run ] || exit 1
+echo 'rt: running out/report; to give it other input, run that file yourself' >&2
+exit 7
+'''
 # Prints what it was run on, and says that output was lost as the program does.
 PROGRAM = '''#!/bin/sh
 { cat walker.blk && cat && printf '\\n'; } 2>/dev/null || echo 'report: output lost' >&2
@@ -17,11 +23,13 @@ class Report(unittest.TestCase):
         folder = tempfile.TemporaryDirectory()
         self.addCleanup(folder.cleanup)
         self.root = folder.name
-        for name, content in [('rt', '#!/bin/sh\n[ "$(pwd)" = "$ROOT/project" ] && [ "$*" = "check report" ]\n'), ('project/target/bin/report', PROGRAM)]:
+        for name, content in [('rt', TOOLCHAIN), ('project/crates/report/out/report', PROGRAM), ('project/target/bin/report', 'an earlier program')]:
             self.write(name, content)
             os.chmod(os.path.join(self.root, name), 0o755)
+        self.write('project/crates/report/src/main.rt', '')
         os.makedirs(os.path.join(self.root, 'project/tools'))
-        shutil.copy(os.path.join(HERE, 'report'), os.path.join(self.root, 'project/tools/report'))
+        for script in 'report', 'program':
+            shutil.copy(os.path.join(HERE, script), os.path.join(self.root, 'project/tools', script))
         # The last two are found by CDPATH, and must not be.
         for name in ('project/samples/one', 'project/samples/two', 'mine/a b', 'mine/-c', 'decoy/a b', 'decoy/tools'):
             of = 'decoy' if 'decoy' in name else os.path.basename(name)
@@ -73,7 +81,7 @@ class Report(unittest.TestCase):
     def test_lost_output(self):
         self.failed('standard output is closed', '"a b"', redirection='>&-')
         self.failed('report: output lost', '"a b"', redirection='> /dev/full')
-        self.write('project/target/bin/report', '#!/bin/sh\n')
+        self.write('project/crates/report/out/report', '#!/bin/sh\n')
         self.failed('output lost', '"a b"', redirection='> /dev/full')
 
     def test_lost_by_the_program(self):

@@ -10,8 +10,11 @@ printf 'made of ' && cat
 [ ! -e words ] || cat words >&2
 [ ! -e status ] || exit "$(cat status)"
 '''
+# Says that it runs the program, which then ends as it likes.
 TOOLCHAIN = '''#!/bin/sh
-[ "$(pwd)" = "$ROOT/project" ] && [ "$*" = "check %s" ]
+[ "$(pwd)" = "$ROOT/project/crates/{0}" ] && [ "$*" = run ] || exit 1
+echo 'rt: running out/{0}; to give it other input, run that file yourself' >&2
+exit 7
 '''
 
 
@@ -24,11 +27,13 @@ class Writer:
         self.addCleanup(folder.cleanup)
         self.root = folder.name
         program = self.program or self.name
-        for name, content in [('rt', TOOLCHAIN % program), ('project/target/bin/' + program, PROGRAM)]:
+        made = f'project/crates/{program}/out/{program}'
+        for name, content in [('rt', TOOLCHAIN.format(program)), (made, PROGRAM), ('project/target/bin/' + program, 'an earlier program')]:
             self.write(name, content)
             os.chmod(os.path.join(self.root, name), 0o755)
+        self.write(f'project/crates/{program}/src/main.rt', '')
         os.makedirs(os.path.join(self.root, 'project/tools'))
-        for script in self.name, 'writer':
+        for script in self.name, 'writer', 'program':
             shutil.copy(os.path.join(HERE, script), os.path.join(self.root, 'project/tools', script))
         self.write('mine/a walker', 'a walker')
         self.write('mine/a text', 'a text')

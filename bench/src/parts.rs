@@ -1,5 +1,5 @@
 //! The functions of libreading.a: two parts of the engine's judging, by themselves. Nothing checks these declarations against their source
-//! (crates/reading/src/lib.rt), so they stand here alone. Neither asks more of its caller than what Rust's references promise: a slice is a
+//! (crates/reading_c/src/lib.rt), so they stand here alone. Neither asks more of its caller than what Rust's references promise: a slice is a
 //! pointer, never null, and a length, and what is written to overlaps nothing else. Neither keeps a pointer after the call.
 use crate::{
     blocks::BLOCK,

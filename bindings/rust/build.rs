@@ -1,4 +1,4 @@
-//! Links target/staticlib/libengine.a of the repository, which `rt staticlib engine` writes.
+//! Links target/staticlib/libengine.a of the repository, which `tools/staticlib engine` writes.
 use std::{env, path::Path};
 
 fn main() {

@@ -1,4 +1,4 @@
-//! The functions of libengine.a. Nothing checks these declarations against their source (crates/engine/src/numbers.rt), so they stand here
+//! The functions of libengine.a. Nothing checks these declarations against their source (crates/engine_c/src/lib.rt), so they stand here
 //! alone. None asks more of its caller than what Rust's references promise: a slice is a pointer, never null, and a length, and what is
 //! written to overlaps nothing else. None keeps a pointer after the call.
 use crate::Tally;

@@ -40,8 +40,7 @@ use tally::Tally;
 use watch::Watched;
 
 // Whether an automaton's file accepts a tree's file, with the sum of growths.
-#[unsafe(no_mangle)]
-pub extern "C" fn engine_judge(
+pub fn engine_judge(
     automaton: &[u8],
     tree: &[u8],
     growth: &mut [usize; 1],
@@ -58,8 +57,7 @@ pub extern "C" fn engine_judge(
 }
 
 // The same answer without the sum.
-#[unsafe(no_mangle)]
-pub extern "C" fn engine_accepts(automaton: &[u8], tree: &[u8], told: &mut [usize; 3]) -> u32
+pub fn engine_accepts(automaton: &[u8], tree: &[u8], told: &mut [usize; 3]) -> u32
     ensures equals { (result ≡ answer_number (judged automaton.now tree.now))
         × (told.new ≡ answer_told (judged automaton.now tree.now)) }
     ensures right { (a : Answer) × (result ≡ answer_number a) × (told.new ≡ answer_told a)
@@ -69,8 +67,7 @@ pub extern "C" fn engine_accepts(automaton: &[u8], tree: &[u8], told: &mut [usiz
 }
 
 // The answers to trees' files end to end, three numbers each, and their sums of growths.
-#[unsafe(no_mangle)]
-pub extern "C" fn engine_judge_all(
+pub fn engine_judge_all(
     automaton: &[u8],
     trees: &[u8],
     answers: &mut [usize],
@@ -88,8 +85,7 @@ pub extern "C" fn engine_judge_all(
 }
 
 // Looks for a tree that an automaton's file accepts; the plan goes to the front of the buffer.
-#[unsafe(no_mangle)]
-pub extern "C" fn engine_survey(file: &[u8], plan: &mut [u8], told: &mut [usize; 3]) -> u32
+pub fn engine_survey(file: &[u8], plan: &mut [u8], told: &mut [usize; 3]) -> u32
     ensures equals { (result ≡ survey_number (surveyed file.now plan.old).answer)
         × (told.new ≡ survey_told (surveyed file.now plan.old).answer)
         × (plan.new ≡ (surveyed file.now plan.old).buffer) }
@@ -100,13 +96,7 @@ pub extern "C" fn engine_survey(file: &[u8], plan: &mut [u8], told: &mut [usize;
 }
 
 // The tree that a plan builds, as a tree's file at the front of the output.
-#[unsafe(no_mangle)]
-pub extern "C" fn engine_witness(
-    file: &[u8],
-    plan: &[u8],
-    out: &mut [u8],
-    told: &mut [usize; 3],
-) -> u32
+pub fn engine_witness(file: &[u8], plan: &[u8], out: &mut [u8], told: &mut [usize; 3]) -> u32
     ensures equals { (result ≡ written_number (witness_of file.now plan.now out.old).answer)
         × (told.new ≡ written_told (witness_of file.now plan.now out.old).answer)
         × (out.new ≡ (witness_of file.now plan.now out.old).out) }
@@ -117,8 +107,7 @@ pub extern "C" fn engine_witness(
 }
 
 // The quick check of an automaton's file.
-#[unsafe(no_mangle)]
-pub extern "C" fn engine_quick(file: &[u8], told: &mut [usize; 3]) -> u32
+pub fn engine_quick(file: &[u8], told: &mut [usize; 3]) -> u32
     ensures equals { (result ≡ quick_number (checked file.now)) × (told.new ≡ quick_told (checked file.now)) }
     ensures right { (a : Quick) × (result ≡ quick_number a) × (told.new ≡ quick_told a) × Demand3Quick file.now a }
 {
@@ -126,8 +115,7 @@ pub extern "C" fn engine_quick(file: &[u8], told: &mut [usize; 3]) -> u32
 }
 
 // Whether the automaton of a file is single.
-#[unsafe(no_mangle)]
-pub extern "C" fn engine_single(file: &[u8], told: &mut [usize; 3]) -> u32
+pub fn engine_single(file: &[u8], told: &mut [usize; 3]) -> u32
     ensures equals { (result ≡ single_number (single_of file.now)) × (told.new ≡ single_told (single_of file.now)) }
     ensures right { (a : Singleness) × (result ≡ single_number a) × (told.new ≡ single_told a) × SingleRight file.now a }
 {
@@ -135,8 +123,7 @@ pub extern "C" fn engine_single(file: &[u8], told: &mut [usize; 3]) -> u32
 }
 
 // An automaton's file in its one form, at the front of the output.
-#[unsafe(no_mangle)]
-pub extern "C" fn engine_canonical(file: &[u8], out: &mut [u8], told: &mut [usize; 3]) -> u32
+pub fn engine_canonical(file: &[u8], out: &mut [u8], told: &mut [usize; 3]) -> u32
     ensures equals { (result ≡ written_number (canonical_of file.now out.old).answer)
         × (told.new ≡ written_told (canonical_of file.now out.old).answer)
         × (out.new ≡ (canonical_of file.now out.old).out) }
@@ -147,13 +134,7 @@ pub extern "C" fn engine_canonical(file: &[u8], out: &mut [u8], told: &mut [usiz
 }
 
 // The tree of an element text, as a tree's file at the front of the output.
-#[unsafe(no_mangle)]
-pub extern "C" fn engine_markup(
-    file: &[u8],
-    text: &[u8],
-    out: &mut [u8],
-    told: &mut [usize; 3],
-) -> u32
+pub fn engine_markup(file: &[u8], text: &[u8], out: &mut [u8], told: &mut [usize; 3]) -> u32
     ensures equals { (result ≡ written_number (markup_of file.now text.now out.old).answer)
         × (told.new ≡ written_told (markup_of file.now text.now out.old).answer)
         × (out.new ≡ (markup_of file.now text.now out.old).out) }
@@ -164,8 +145,7 @@ pub extern "C" fn engine_markup(
 }
 
 // Follows the run of a single automaton with one start state on a tree, and logs it at the front of the buffer.
-#[unsafe(no_mangle)]
-pub extern "C" fn engine_watch(
+pub fn engine_watch(
     automaton: &[u8],
     tree: &[u8],
     budget: usize,
@@ -183,8 +163,7 @@ pub extern "C" fn engine_watch(
 
 // Holds two logs of an automaton and a tree together: the length of the part of the first in which they agree, and how many entries from the start
 // of each are a run.
-#[unsafe(no_mangle)]
-pub extern "C" fn engine_compare(
+pub fn engine_compare(
     automaton: &[u8],
     tree: &[u8],
     first: &[u8],
@@ -207,8 +186,7 @@ pub extern "C" fn engine_compare(
 }
 
 // One outcome more on a tally of three numbers: accepted, other, refused.
-#[unsafe(no_mangle)]
-pub extern "C" fn engine_count(tally: &mut [u32; 3], outcome: u32, told: &mut [usize; 3]) -> u32
+pub fn engine_count(tally: &mut [u32; 3], outcome: u32, told: &mut [usize; 3]) -> u32
     ensures { (result ≡ check_number (counted_up (tally_of tally.old) (outcome_numbered outcome)).check)
         × (told.new ≡ check_told (counted_up (tally_of tally.old) (outcome_numbered outcome)).check)
         × (tally.new ≡ tally_numbers (counted_up (tally_of tally.old) (outcome_numbered outcome)).tally) }
@@ -226,8 +204,7 @@ pub extern "C" fn engine_count(tally: &mut [u32; 3], outcome: u32, told: &mut [u
 }
 
 // The percent of accepted trees among those judged.
-#[unsafe(no_mangle)]
-pub extern "C" fn engine_percent(accepted: u32, other: u32) -> u32
+pub fn engine_percent(accepted: u32, other: u32) -> u32
     ensures equals { result ≡ percent_of (judged_tally accepted other) }
     ensures right { PercentRight (judged_tally accepted other) result }
 {
@@ -239,8 +216,7 @@ pub extern "C" fn engine_percent(accepted: u32, other: u32) -> u32
 }
 
 // The tally of trees' files end to end, onto a tally of three numbers.
-#[unsafe(no_mangle)]
-pub extern "C" fn engine_tally(
+pub fn engine_tally(
     automaton: &[u8],
     trees: &[u8],
     tally: &mut [u32; 3],
@@ -263,8 +239,7 @@ pub extern "C" fn engine_tally(
 }
 
 // The report on an automaton's file and trees' files end to end; its length.
-#[unsafe(no_mangle)]
-pub extern "C" fn engine_report(automaton: &[u8], trees: &[u8], text: &mut [u8; 357]) -> usize
+pub fn engine_report(automaton: &[u8], trees: &[u8], text: &mut [u8; 357]) -> usize
     ensures { Appended text.old 0 (report_of automaton.now trees.now) text.new result }
 {
     crate::report(automaton, trees, text)

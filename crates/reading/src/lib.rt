@@ -31,8 +31,7 @@ fn count_told(parsed: ParsedTree) -> usize
 }
 
 // The lowest block whose check is wrong, or the number of blocks.
-#[unsafe(no_mangle)]
-pub extern "C" fn reading_check(file: &[u8]) -> usize
+pub fn reading_check(file: &[u8]) -> usize
     ensures { result ≡ place_or (lowest (check_wrong file.now) (length file.now / 512)) (length file.now / 512) }
 {
     place_or(blocks::first_bad_block(file), file.len() / 512)
@@ -40,13 +39,7 @@ pub extern "C" fn reading_check(file: &[u8]) -> usize
 
 // Reads a tree's file against so many symbols, of which these are branch symbols: the number of its nodes, whose symbols go to the front of
 // `nodes`; or 0, if it is refused.
-#[unsafe(no_mangle)]
-pub extern "C" fn reading_tree(
-    file: &[u8],
-    symbols: u8,
-    branches: u32,
-    nodes: &mut [u8; 4096],
-) -> usize
+pub fn reading_tree(file: &[u8], symbols: u8, branches: u32, nodes: &mut [u8; 4096]) -> usize
     ensures { (result ≡ count_told (read_tree (record { symbols = symbols; branches = branches }) file.now))
         × (nodes.new ≡ nodes_after (read_tree (record { symbols = symbols; branches = branches }) file.now) file.now nodes.old) }
 {

@@ -1,0 +1,247 @@
+// The engine's static library: each function of `engine::numbers` under its own name, for C and Rust; bindings/engine.h has their C declarations.
+// A library of Rattle exports nothing, so that each stands here again, with its clauses.
+#![tactic(auto)]
+
+ghost use Rattle.std.specs.Prelude.{◌≡◌, length};
+ghost use Rattle.membership.specs.Judged.{judged};
+ghost use Rattle.answers.specs.All as all-spec;
+ghost use Rattle.answers.specs.declared.Judgement.{Judgement};
+ghost use Rattle.membership.specs.Demand2.{Demand2};
+ghost use Rattle.membership.specs.Grown.{judged_with, GrowthRight};
+ghost use Rattle.emptiness.specs.Surveyed.{answered, surveyed};
+ghost use Rattle.emptiness.specs.Checked.{checked};
+ghost use Rattle.emptiness.specs.Demand3.{Demand3, Demand3Quick};
+ghost use Rattle.determinism.specs.Single.{single_of};
+ghost use Rattle.determinism.specs.Singles.{SingleRight};
+ghost use Rattle.tally.specs.Tally.{counted_up, percent_of};
+ghost use Rattle.tally.specs.Rounding.{PercentRight};
+ghost use Rattle.batch.specs.Batch.{tallied_of};
+ghost use Rattle.text.specs.Appended.{Appended};
+ghost use Rattle.report_text.specs.Report.{report_of};
+ghost use Rattle.block_writer.specs.Written.{filled};
+ghost use Rattle.witness.specs.Written.{witness_of};
+ghost use Rattle.witness.specs.Promise as witness-spec;
+ghost use Rattle.canonical.specs.Canonical.{canonical_of};
+ghost use Rattle.canonical.specs.Promise as canonical-spec;
+ghost use Rattle.markup.specs.Written.{markup_of};
+ghost use Rattle.markup.specs.Promise as markup-spec;
+ghost use Rattle.watch.specs.Watch.{outcome, watch_of};
+ghost use Rattle.watch.specs.Promise as watch-spec;
+ghost use Rattle.agreement.specs.Common.{common_part};
+ghost use Rattle.logs.specs.Compare.{compared_of, part_of, told_of};
+ghost use Rattle.logs.specs.Promise as logs-spec;
+ghost use Rattle.numbering.specs.Numbers.{answer_number, answer_told, growth_numbers, judgement_number, judgement_told, survey_number, survey_told, quick_number, quick_told, single_number, single_told, written_number, written_told, watch_number, watch_told, compared_number, compared_counts, compared_told, outcome_numbered, tally_of, tally_numbers, check_number, check_told, judged_tally};
+
+use block_writer::Written;
+use determinism::Singleness;
+use emptiness::{Quick, Survey};
+use logs::Compared;
+use membership::{Answer, Judged};
+use watch::Watched;
+
+// Whether an automaton's file accepts a tree's file, with the sum of growths.
+#[unsafe(no_mangle)]
+pub extern "C" fn engine_judge(
+    automaton: &[u8],
+    tree: &[u8],
+    growth: &mut [usize; 1],
+    told: &mut [usize; 3],
+) -> u32
+    ensures equals { (result ≡ answer_number (judged automaton.now tree.now))
+        × (growth.new ≡ growth_numbers (judged_with automaton.now tree.now))
+        × (told.new ≡ answer_told (judged automaton.now tree.now)) }
+    ensures right { (a : Judged) × (result ≡ answer_number a.answer) × (growth.new ≡ growth_numbers a)
+        × (told.new ≡ answer_told a.answer) × Demand2 automaton.now tree.now a.answer
+        × GrowthRight automaton.now tree.now a }
+{
+    engine::numbers::engine_judge(automaton, tree, growth, told)
+}
+
+// The same answer without the sum.
+#[unsafe(no_mangle)]
+pub extern "C" fn engine_accepts(automaton: &[u8], tree: &[u8], told: &mut [usize; 3]) -> u32
+    ensures equals { (result ≡ answer_number (judged automaton.now tree.now))
+        × (told.new ≡ answer_told (judged automaton.now tree.now)) }
+    ensures right { (a : Answer) × (result ≡ answer_number a) × (told.new ≡ answer_told a)
+        × Demand2 automaton.now tree.now a }
+{
+    engine::numbers::engine_accepts(automaton, tree, told)
+}
+
+// The answers to trees' files end to end, three numbers each, and their sums of growths.
+#[unsafe(no_mangle)]
+pub extern "C" fn engine_judge_all(
+    automaton: &[u8],
+    trees: &[u8],
+    answers: &mut [usize],
+    growths: &mut [usize],
+    told: &mut [usize; 3],
+) -> u32
+    ensures equals { (result ≡ judgement_number (all-spec.judged_all automaton.now trees.now answers.old growths.old).judgement)
+        × (told.new ≡ judgement_told (all-spec.judged_all automaton.now trees.now answers.old growths.old).judgement)
+        × (answers.new ≡ (all-spec.judged_all automaton.now trees.now answers.old growths.old).numbers)
+        × (growths.new ≡ (all-spec.judged_all automaton.now trees.now answers.old growths.old).growths) }
+    ensures right { (j : Judgement) × (result ≡ judgement_number j) × (told.new ≡ judgement_told j)
+        × all-spec.Each automaton.now trees.now (all-spec.outcome j answers.new growths.new) }
+{
+    engine::numbers::engine_judge_all(automaton, trees, answers, growths, told)
+}
+
+// Looks for a tree that an automaton's file accepts; the plan goes to the front of the buffer.
+#[unsafe(no_mangle)]
+pub extern "C" fn engine_survey(file: &[u8], plan: &mut [u8], told: &mut [usize; 3]) -> u32
+    ensures equals { (result ≡ survey_number (surveyed file.now plan.old).answer)
+        × (told.new ≡ survey_told (surveyed file.now plan.old).answer)
+        × (plan.new ≡ (surveyed file.now plan.old).buffer) }
+    ensures right { (a : Survey) × (result ≡ survey_number a) × (told.new ≡ survey_told a)
+        × Demand3 file.now plan.old (answered a plan.new) }
+{
+    engine::numbers::engine_survey(file, plan, told)
+}
+
+// The tree that a plan builds, as a tree's file at the front of the output.
+#[unsafe(no_mangle)]
+pub extern "C" fn engine_witness(
+    file: &[u8],
+    plan: &[u8],
+    out: &mut [u8],
+    told: &mut [usize; 3],
+) -> u32
+    ensures equals { (result ≡ written_number (witness_of file.now plan.now out.old).answer)
+        × (told.new ≡ written_told (witness_of file.now plan.now out.old).answer)
+        × (out.new ≡ (witness_of file.now plan.now out.old).out) }
+    ensures right { (a : Written) × (result ≡ written_number a) × (told.new ≡ written_told a)
+        × witness-spec.Promise file.now plan.now out.old (filled a out.new) }
+{
+    engine::numbers::engine_witness(file, plan, out, told)
+}
+
+// The quick check of an automaton's file.
+#[unsafe(no_mangle)]
+pub extern "C" fn engine_quick(file: &[u8], told: &mut [usize; 3]) -> u32
+    ensures equals { (result ≡ quick_number (checked file.now)) × (told.new ≡ quick_told (checked file.now)) }
+    ensures right { (a : Quick) × (result ≡ quick_number a) × (told.new ≡ quick_told a) × Demand3Quick file.now a }
+{
+    engine::numbers::engine_quick(file, told)
+}
+
+// Whether the automaton of a file is single.
+#[unsafe(no_mangle)]
+pub extern "C" fn engine_single(file: &[u8], told: &mut [usize; 3]) -> u32
+    ensures equals { (result ≡ single_number (single_of file.now)) × (told.new ≡ single_told (single_of file.now)) }
+    ensures right { (a : Singleness) × (result ≡ single_number a) × (told.new ≡ single_told a) × SingleRight file.now a }
+{
+    engine::numbers::engine_single(file, told)
+}
+
+// An automaton's file in its one form, at the front of the output.
+#[unsafe(no_mangle)]
+pub extern "C" fn engine_canonical(file: &[u8], out: &mut [u8], told: &mut [usize; 3]) -> u32
+    ensures equals { (result ≡ written_number (canonical_of file.now out.old).answer)
+        × (told.new ≡ written_told (canonical_of file.now out.old).answer)
+        × (out.new ≡ (canonical_of file.now out.old).out) }
+    ensures right { (a : Written) × (result ≡ written_number a) × (told.new ≡ written_told a)
+        × canonical-spec.Promise file.now out.old (filled a out.new) }
+{
+    engine::numbers::engine_canonical(file, out, told)
+}
+
+// The tree of an element text, as a tree's file at the front of the output.
+#[unsafe(no_mangle)]
+pub extern "C" fn engine_markup(
+    file: &[u8],
+    text: &[u8],
+    out: &mut [u8],
+    told: &mut [usize; 3],
+) -> u32
+    ensures equals { (result ≡ written_number (markup_of file.now text.now out.old).answer)
+        × (told.new ≡ written_told (markup_of file.now text.now out.old).answer)
+        × (out.new ≡ (markup_of file.now text.now out.old).out) }
+    ensures right { (a : Written) × (result ≡ written_number a) × (told.new ≡ written_told a)
+        × markup-spec.Promise file.now text.now out.old (filled a out.new) }
+{
+    engine::numbers::engine_markup(file, text, out, told)
+}
+
+// Follows the run of a single automaton with one start state on a tree, and logs it at the front of the buffer.
+#[unsafe(no_mangle)]
+pub extern "C" fn engine_watch(
+    automaton: &[u8],
+    tree: &[u8],
+    budget: usize,
+    log: &mut [u8],
+    told: &mut [usize; 3],
+) -> u32
+    ensures equals { (result ≡ watch_number (watch_of automaton.now tree.now budget log.old).answer)
+        × (told.new ≡ watch_told (watch_of automaton.now tree.now budget log.old).answer)
+        × (log.new ≡ (watch_of automaton.now tree.now budget log.old).log) }
+    ensures right { (a : Watched) × (result ≡ watch_number a) × (told.new ≡ watch_told a)
+        × watch-spec.Promise automaton.now tree.now budget log.old (outcome a log.new) }
+{
+    engine::numbers::engine_watch(automaton, tree, budget, log, told)
+}
+
+// Holds two logs of an automaton and a tree together: the length of the part of the first in which they agree, and how many entries from the start
+// of each are a run.
+#[unsafe(no_mangle)]
+pub extern "C" fn engine_compare(
+    automaton: &[u8],
+    tree: &[u8],
+    first: &[u8],
+    second: &[u8],
+    counts: &mut [usize; 3],
+    told: &mut [usize; 3],
+) -> u32
+    ensures equals { (result ≡ compared_number (compared_of automaton.now tree.now first.now second.now))
+        × (counts.new ≡ compared_counts (compared_of automaton.now tree.now first.now second.now)
+        (length (common_part first.now second.now)))
+        × (told.new ≡ compared_told (compared_of automaton.now tree.now first.now second.now)) }
+    ensures right { (a : Compared) × (result ≡ compared_number a) × (counts.new ≡ compared_counts a (length (part_of a first.now second.now)))
+        × (told.new ≡ compared_told a)
+        × logs-spec.Promise automaton.now tree.now first.now second.now
+        (part_of a first.now second.now) (told_of a) }
+{
+    engine::numbers::engine_compare(automaton, tree, first, second, counts, told)
+}
+
+// One outcome more on a tally of three numbers: accepted, other, refused.
+#[unsafe(no_mangle)]
+pub extern "C" fn engine_count(tally: &mut [u32; 3], outcome: u32, told: &mut [usize; 3]) -> u32
+    ensures { (result ≡ check_number (counted_up (tally_of tally.old) (outcome_numbered outcome)).check)
+        × (told.new ≡ check_told (counted_up (tally_of tally.old) (outcome_numbered outcome)).check)
+        × (tally.new ≡ tally_numbers (counted_up (tally_of tally.old) (outcome_numbered outcome)).tally) }
+{
+    engine::numbers::engine_count(tally, outcome, told)
+}
+
+// The percent of accepted trees among those judged.
+#[unsafe(no_mangle)]
+pub extern "C" fn engine_percent(accepted: u32, other: u32) -> u32
+    ensures equals { result ≡ percent_of (judged_tally accepted other) }
+    ensures right { PercentRight (judged_tally accepted other) result }
+{
+    engine::numbers::engine_percent(accepted, other)
+}
+
+// The tally of trees' files end to end, onto a tally of three numbers.
+#[unsafe(no_mangle)]
+pub extern "C" fn engine_tally(
+    automaton: &[u8],
+    trees: &[u8],
+    tally: &mut [u32; 3],
+    told: &mut [usize; 3],
+) -> u32
+    ensures { (result ≡ check_number (tallied_of automaton.now trees.now (tally_of tally.old)).check)
+        × (told.new ≡ check_told (tallied_of automaton.now trees.now (tally_of tally.old)).check)
+        × (tally.new ≡ tally_numbers (tallied_of automaton.now trees.now (tally_of tally.old)).tally) }
+{
+    engine::numbers::engine_tally(automaton, trees, tally, told)
+}
+
+// The report on an automaton's file and trees' files end to end; its length.
+#[unsafe(no_mangle)]
+pub extern "C" fn engine_report(automaton: &[u8], trees: &[u8], text: &mut [u8; 357]) -> usize
+    ensures { Appended text.old 0 (report_of automaton.now trees.now) text.new result }
+{
+    engine::numbers::engine_report(automaton, trees, text)
+}
