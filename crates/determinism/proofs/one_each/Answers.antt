@@ -14,10 +14,10 @@ pub loop-p-init : goal.loop-p-init
 loop-p-init c = (search rules, each_none _)
 
 pub returns-then-not-one_choice : goal.returns-then-not-one_choice
-returns-then-not-one_choice c = sym (each-fails _ c.loop-p.p c.args.states (search rules) (sym c.one_Choice.ensures ∙ not-true _ c.if-not-one_choice.true))
+returns-then-not-one_choice c = sym (each-fails _ c.loop-p.p c.args.states (search rules) (sym c.one_choice.ensures ∙ c.if-not-one_choice.true))
 
 pub loop-p-preserved : goal.loop-p-preserved
-loop-p-preserved c = (search rules, each_next _ _ c.loop-p.invariant.1 (sym c.one_Choice.ensures ∙ not-false _ c.if-not-one_choice.false))
+loop-p-preserved c = (search rules, each_next _ _ c.loop-p.invariant.1 (sym c.one_choice.ensures ∙ c.if-not-one_choice.false))
 
 pub returns : goal.returns
 returns c =

@@ -8,12 +8,12 @@ use Rattle.determinism.proofs.one_places.Goals as goal
 
 pub returns-then-not-one_each : goal.returns-then-not-one_each
 unfolding one_places
-returns-then-not-one_each c = simp (sym c.one_each.ensures ∙ not-true _ c.if-not-one_each.true)
+returns-then-not-one_each c = simp (sym c.one_each.ensures ∙ c.if-not-one_each.true)
 
 pub returns-then-not-one_each-2 : goal.returns-then-not-one_each-2
 unfolding one_places
-returns-then-not-one_each-2 c = simp (sym c.one_each.ensures ∙ not-false _ c.if-not-one_each.false, sym c.one_each-2.ensures ∙ not-true _ c.if-not-one_each-2.true)
+returns-then-not-one_each-2 c = simp (sym c.one_each.ensures ∙ c.if-not-one_each.false, sym c.one_each-2.ensures ∙ c.if-not-one_each-2.true)
 
 pub returns : goal.returns
 unfolding one_places
-returns c = simp (sym c.one_each.ensures ∙ not-false _ c.if-not-one_each.false, sym c.one_each-2.ensures ∙ not-false _ c.if-not-one_each-2.false) c.one_each-3.ensures
+returns c = simp (sym c.one_each.ensures ∙ c.if-not-one_each.false, sym c.one_each-2.ensures ∙ c.if-not-one_each-2.false) c.one_each-3.ensures

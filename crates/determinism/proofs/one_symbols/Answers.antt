@@ -14,10 +14,10 @@ pub loop-symbol-init : goal.loop-symbol-init
 loop-symbol-init c = (search rules, each_none _)
 
 pub returns-then-not-one_places : goal.returns-then-not-one_places
-returns-then-not-one_places c = sym (each-fails _ c.loop-symbol.symbol c.args.symbols (search rules) (sym c.one_places.ensures ∙ not-true _ c.if-not-one_places.true))
+returns-then-not-one_places c = sym (each-fails _ c.loop-symbol.symbol c.args.symbols (search rules) (sym c.one_places.ensures ∙ c.if-not-one_places.true))
 
 pub loop-symbol-preserved : goal.loop-symbol-preserved
-loop-symbol-preserved c = (search rules, each_next _ _ c.loop-symbol.invariant.1 (sym c.one_places.ensures ∙ not-false _ c.if-not-one_places.false))
+loop-symbol-preserved c = (search rules, each_next _ _ c.loop-symbol.invariant.1 (sym c.one_places.ensures ∙ c.if-not-one_places.false))
 
 pub returns : goal.returns
 returns c =

@@ -19,8 +19,8 @@ use Rattle.transitions.proofs.Laws.{loaded-read}
 use Rattle.determinism.proofs.RepeatedRecords.{single-right}
 use Rattle.determinism.proofs.single_file.Goals as goal
 
-both : (s : List ℕ) (r : Singleness) → r ≡ single_of s → (r ≡ single_of s) × SingleRight s r
-both s r e = (e, rw e (single-right s))
+right : (s : List ℕ) (r : Singleness) → r ≡ single_of s → SingleRight s r
+right s r e = rw e (single-right s)
 
 pub single_prepared-requires : goal.single_prepared-requires
 unfolding single_of
@@ -30,7 +30,8 @@ single_prepared-requires c =
 
 pub returns-in-Refused : goal.returns-in-Refused
 unfolding single_of
-returns-in-Refused c = both _ _ (rw (sym c.load.ensures.0 ∙ c.in-Refused.is))
+returns-in-Refused c =
+    let e : _ ≡ single_of c.args.file.now = rw (sym c.load.ensures.0 ∙ c.in-Refused.is) in record { equals = e; right = right _ _ e }
 
 pub returns-in-Read : goal.returns-in-Read
 unfolding single_of
@@ -38,4 +39,5 @@ returns-in-Read c =
     let read_is : parsed c.args.file.now ≡ Parsed.Read c.in-Read.header = sym c.load.ensures.0 ∙ c.in-Read.is in
     let told = c in
     let compiled = loaded-read _ _ _ _ _ told.in-Read.is told.load.ensures.1 in
-    both _ _ (rw (read_is) (c.single_prepared.ensures (automaton_of _ _) compiled refl refl ∙ ap single_if (sym (single-determined _ _ (file-limits _ _ (read_is)).0))))
+    let e : _ ≡ single_of c.args.file.now = rw (read_is) (c.single_prepared.ensures (automaton_of _ _) compiled refl refl ∙ ap single_if (sym (single-determined _ _ (file-limits _ _ (read_is)).0))) in
+    record { equals = e; right = right _ _ e }

@@ -18,4 +18,4 @@ pub returns-then-not-same : goal.returns-then-not-same
 returns-then-not-same c = λ e. let z : ◌≡◌ {A = ℕ} 0 1 = cc in absurd (omega arith)
 
 pub returns : goal.returns
-returns c = λ e. record { some = omega arith; known = search rules; left_rows = sym c.class_rows.ensures ∙ (same-rows-eq _ _).0 (sym c.same.ensures ∙ not-false _ c.if-not-same.false); right_rows = sym c.class_rows-2.ensures ∙ (same-rows-eq _ _).0 (sym c.same-2.ensures ∙ e) }
+returns c = λ e. record { some = omega arith; known = search rules; left_rows = sym c.class_rows.ensures ∙ (same-rows-eq _ _).0 (sym c.same.ensures ∙ c.if-not-same.false); right_rows = sym c.class_rows-2.ensures ∙ (same-rows-eq _ _).0 (sym c.same-2.ensures ∙ e) }

@@ -22,4 +22,4 @@ pub returns-then-not-alike_at-2 : goal.returns-then-not-alike_at-2
 returns-then-not-alike_at-2 c = λ e A k τ. let z : ◌≡◌ {A = ℕ} 0 1 = cc in absurd (omega arith)
 
 pub returns : goal.returns
-returns c = λ e A k. each _ (c.Alike-at.ensures (not-false _ c.if-not-alike_at.false) A k) (c.alike_at-2.ensures (not-false _ c.if-not-alike_at-2.false) A k) (c.alike_at-3.ensures e A k)
+returns c = λ e A k. each _ (c.Alike-at.ensures (c.if-not-alike_at.false) A k) (c.alike_at-2.ensures (c.if-not-alike_at-2.false) A k) (c.alike_at-3.ensures e A k)

@@ -17,7 +17,7 @@ unfolding loops
 returns-then-not-is_branch c =
     λ A n k e small u h.
     let closed = c.close_leaf.ensures.0 A k in
-    rw (leaf-here (sym c.is_branch.ensures ∙ not-true _ c.if-not-is_branch.true) h) (closed.0, leaf-sum A _ _ closed.1)
+    rw (leaf-here (sym c.is_branch.ensures ∙ c.if-not-is_branch.true) h) (closed.0, leaf-sum A _ _ closed.1)
 
 pub part_at-left-requires : goal.part_at-left-requires
 part_at-left-requires c = let q = c.requires in (q.2, q.1, omega arith, q.3)
@@ -45,7 +45,7 @@ pub returns : goal.returns
 unfolding loops
 returns c =
     λ A n k e small u h.
-    let parts = node-here (sym c.is_branch.ensures ∙ not-false _ c.if-not-is_branch.false) h in
+    let parts = node-here (sym c.is_branch.ensures ∙ c.if-not-is_branch.false) h in
     let left = c.part_at-left.ensures.3 A n k e small parts.l parts.left in
     let right = c.part_at-right.ensures.3 A n k e small parts.r (rw left.2 parts.right) in
     let closed = c.close_node-root.ensures.0 A k in

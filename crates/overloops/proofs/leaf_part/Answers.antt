@@ -8,7 +8,7 @@ pub returns : goal.returns
 returns c =
     (
       λ A k.
-          let none = c.empty.ensures in
+          let none = c.empty-none.ensures in
           let part = c.part_in.ensures.0 A k in
           (leaf-formed A k.proper _ _ none none part.0, leaf-grown A k.proper _ _ none none part.1),
       c.part_in.ensures.1,

@@ -8,7 +8,7 @@ pub returns : goal.returns
 returns c =
     (
       λ A k.
-          let loops = c.close-in.ensures.0 A k in
+          let loops = c.close_in-loops.ensures.0 A k in
           (overloops-formed A _ _ _ _ loops.0 (c.moves_in.ensures.1 A k.compiled) c.follow.ensures, loops.1),
-      c.close-in.ensures.1,
+      c.close_in-loops.ensures.1,
     )

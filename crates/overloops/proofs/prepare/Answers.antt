@@ -21,7 +21,7 @@ fill_leaves-requires c =
     let h : Header = c.in-Read.header in
     let s : List ℕ = c.args.file.now in
     let read_is : parsed s ≡ Parsed.Read h = sym c.load.ensures.0 ∙ c.in-Read.is in
-    ((file-limits _ _ (read_is)).0, c.fill-leaves-arg2.given.0.1)
+    ((file-limits _ _ (read_is)).0, search rules)
 
 pub returns-in-Refused : goal.returns-in-Refused
 returns-in-Refused c = let told = rw c.in-Refused.is at c.load.ensures in (told.0, (told.1, refl))
@@ -32,6 +32,6 @@ returns-in-Read c =
     let s : List ℕ = c.args.file.now in
     let read_is : parsed s ≡ Parsed.Read h = sym c.load.ensures.0 ∙ c.in-Read.is in
     let headed : Headed (automaton_of h (content s)) h c.load.new.table = file-headed s h _ read_is (loaded-read _ h s _ _ c.in-Read.is c.load.ensures.1) in
-    let told = rw c.header.given.1 at c.load.ensures in
+    let told = rw c.in-Read.is at c.load.ensures in
     let read = c in
     (told.0, (file-limits _ _ (read_is), record { headed = headed; leaves_are = c.fill_leaves.ensures _ (headed).tabled }))

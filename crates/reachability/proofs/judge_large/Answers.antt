@@ -11,7 +11,7 @@ use Rattle.reachability.proofs.judge_large.Goals as goal
 pub search-requires : goal.search-requires
 search-requires c =
     let p = c.requires in
-    let x = c.link_tree.ensures (not-false _ c.if-not-link_tree.false) in (
+    let x = c.link_tree.ensures (c.if-not-link_tree.false) in (
       p.0,
       p.1,
       omega (arith, p.1, c.parents-2-1.given),
@@ -27,5 +27,5 @@ pub returns : goal.returns
 returns c =
     λ A k.
     let start = c in
-    told A start.args.header start.args.table.now start.args.symbols.now _ _ start.requires.2 k (c.link_tree.ensures (not-false _ c.if-not-link_tree.false)) _
+    told A start.args.header start.args.table.now start.args.symbols.now _ _ start.requires.2 k (c.link_tree.ensures (c.if-not-link_tree.false)) _
     c.search.ensures c.verdict_of.result c.verdict_of.ensures

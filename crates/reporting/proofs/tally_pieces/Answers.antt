@@ -99,7 +99,7 @@ pub shape_of-answers-then-not-part : goal.shape_of-answers-then-not-part
 shape_of-answers-then-not-part c = answers-size c ∙ sym c.before.before.before.before.before.before.before.before.before.before.before.before.before.before.before.before.before.before.before.before.before.before.requires.2
 
 pub returns-then-not-part : goal.returns-then-not-part
-returns-then-not-part c = λ A k h. stopped _ A _ _ _ _ _ _ _ _ (read c A k h) (judged c A k h).1 c.count_all-tally.ensures (not-true _ c.if-not-part.true)
+returns-then-not-part c = λ A k h. stopped _ A _ _ _ _ _ _ _ _ (read c A k h) (judged c A k h).1 c.count_all-tally.ensures (c.if-not-part.true)
 
 pub shape_of-buffer-then-is_full : goal.shape_of-buffer-then-is_full
 shape_of-buffer-then-is_full c = buffer-size c ∙ sym c.before.before.before.before.before.before.before.before.before.before.before.before.before.before.before.before.before.before.before.before.before.before.before.before.requires.1
@@ -123,7 +123,7 @@ pub returns-then-all-lt65536 : goal.returns-then-all-lt65536
 returns-then-all-lt65536 c =
     let j = c.judge-part.ensures in
     let s = take (held c + got c) (buffer c) in
-    let on : (part c).more ≡ true = not-false _ c.if-not-part.false in
+    let on : (part c).more ≡ true = c.if-not-part.false in
     let short : length s < 65536 = omega (arith, size c, c.if-all-lt65536.true) in
     let cut = left_cut s c.loop.answers (part c) c.loop.invariant.1 j.2 j.3 (j.4 on) short in
     let left : held c + got c - (part c).bytes ≡ length (drop (part c).bytes s) = omega (arith, size c, length-drop (part c).bytes s) in
@@ -136,14 +136,14 @@ pub loop-header-smaller : goal.loop-header-smaller
 loop-header-smaller c =
     let j = c.judge-part.ensures in
     let s = take (held c + got c) (buffer c) in
-    let on : (part c).more ≡ true = not-false _ c.if-not-part.false in
+    let on : (part c).more ≡ true = c.if-not-part.false in
     let whole : length s ≡ 65536 = omega (arith, size c, all_fit c, c.if-all-lt65536.false) in
     let some = some-file s c.loop.answers (part c) c.loop.invariant.1 j.2 j.3 (j.4 on) whole j.6 in
     nearer c.loop.tally (tally c) (answers c) (part c).files c.count_all-tally.ensures j.0 c.loop.invariant.3 some
 
 pub loop-header-preserved : goal.loop-header-preserved
 loop-header-preserved c =
-    let on : (part c).more ≡ true = not-false _ c.if-not-part.false in
+    let on : (part c).more ≡ true = c.if-not-part.false in
     let moved = c.move_front-held.ensures in (
       moved.1 ∙ buffer-size c,
       answers-size c,
