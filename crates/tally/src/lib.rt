@@ -63,8 +63,7 @@ pub fn count(tally: &mut Tally, outcome: Outcome) -> Check
     next.check
 }
 
-// For a caller that holds the tally: it is lent to `count` and comes back. A function that lends a struct is proved by hand; this one is, so
-// that its callers are not.
+// For a caller that holds the tally: it is lent to `count` and comes back.
 pub fn count_held(mut tally: Tally, outcome: Outcome) -> Tallied
     ensures { result ≡ counted_up tally outcome }
 {

@@ -1,6 +1,5 @@
 -- `determinism::one_choice` meets its contract: the four cells are counted.
 -- Assumes nothing.
-use borrow.Author.Rules.{rules}
 use Rattle.determinism.specs.Determined.{one_choice}
 use Rattle.determinism.proofs.one_choice.Goals as goal
 

@@ -1,12 +1,7 @@
 -- `determinism::one_each` meets its contract. The invariant: each of the first p states has one choice.
 -- Assumes nothing.
 use borrow.Author.Rules.{rules}
-use borrow.Author.Tests.{not-true, not-false}
-use Prim.Native.Nat.{◌-◌, ◌≤◌}
 use mathlib.Core.Path.{◌≡◌, sym, ◌∙◌}
-use mathlib.Core.Bool.{true}
-use Rattle.transitions.specs.Compiled.{next_in}
-use Rattle.determinism.specs.Determined.{one_each}
 use Rattle.determinism.proofs.Each.{each_none, each_next, each-fails}
 use Rattle.determinism.proofs.one_each.Goals as goal
 

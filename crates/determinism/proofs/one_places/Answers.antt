@@ -1,7 +1,5 @@
 -- `determinism::one_places` meets its contract: the places in turn.
 -- Assumes nothing.
-use borrow.Author.Rules.{rules}
-use borrow.Author.Tests.{not-true, not-false}
 use mathlib.Core.Path.{sym, ◌∙◌}
 use Rattle.determinism.specs.Determined.{one_places}
 use Rattle.determinism.proofs.one_places.Goals as goal

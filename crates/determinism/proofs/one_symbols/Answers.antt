@@ -1,12 +1,7 @@
 -- `determinism::one_symbols` meets its contract. The invariant: each of the first symbols has one choice in each state, at each place.
 -- Assumes nothing.
 use borrow.Author.Rules.{rules}
-use borrow.Author.Tests.{not-true, not-false}
-use Prim.Native.Nat.{◌-◌, ◌≤◌}
 use mathlib.Core.Path.{◌≡◌, sym, ◌∙◌}
-use mathlib.Core.Bool.{true}
-use Rattle.transitions.specs.Compiled.{next_in}
-use Rattle.determinism.specs.Determined.{one_symbols}
 use Rattle.determinism.proofs.Each.{each_none, each_next, each-fails}
 use Rattle.determinism.proofs.one_symbols.Goals as goal
 

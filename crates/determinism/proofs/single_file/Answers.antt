@@ -3,7 +3,6 @@
 -- Assumes nothing.
 -- what is equal to the definition's answer is right
 -- the file reads
-use borrow.Author.Rules.{rules}
 use Prim.Native.Nat.{ℕ}
 use mathlib.Core.Path.{◌≡◌, refl, sym, ap, ◌∙◌}
 use mathlib.Core.List.{List}

@@ -1,12 +1,10 @@
 -- `overloops::fill_leaves` meets its contract. The invariant: the leaves below the symbol are filled.
 -- Assumes nothing.
-use borrow.Author.Rules.{rules}
 use Prim.Native.Nat.{◌-◌, ◌≤◌}
 use mathlib.Core.Path.{◌≡◌}
 use lib.ListN.{length}
 use Rattle.algorithms.specs.Automaton.{Automaton}
 use Rattle.overloops.specs.Tables.{Tabled, LeavesBelow}
-use Rattle.overloops.proofs.Laws.{no-leaves, more-leaves}
 use Rattle.overloops.proofs.fill_leaves.Given as goal
 
 abbrev pub invariant-loop-symbol : goal.invariant-loop-symbol

@@ -1,6 +1,5 @@
 -- `overloops::leaf_loops` meets its contract: a leaf is a node whose parts have no overloops.
 -- Assumes nothing.
-use borrow.Author.Rules.{rules}
 use mathlib.Core.Path.{sym, ◌∙◌}
 use Rattle.algorithms.proofs.OverloopLaws.{leaf-as-node}
 use Rattle.overloops.proofs.leaf_loops.Goals as goal

@@ -1,6 +1,5 @@
 -- `overloops::leaf_overloops` meets its contract: the rows of a table of leaves are their overloops.
 -- Assumes nothing.
-use borrow.Author.Rules.{rules}
 use mathlib.Core.Path.{◌∙◌}
 use Rattle.overloops.proofs.Laws.{leaf-are}
 use Rattle.overloops.proofs.leaf_overloops.Goals as goal

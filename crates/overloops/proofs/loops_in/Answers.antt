@@ -1,6 +1,5 @@
 -- `overloops::loops_in` meets its contract.
 -- Assumes nothing.
-use borrow.Author.Rules.{rules}
 use Rattle.overloops.proofs.Laws.{loops-formed}
 use Rattle.overloops.proofs.loops_in.Goals as goal
 

@@ -1,6 +1,5 @@
 -- `overloops::moves` meets its contract: the rows of a compiled table are the pairs of the transitions.
 -- Assumes nothing.
-use borrow.Author.Rules.{rules}
 use mathlib.Core.Path.{◌∙◌}
 use Rattle.overloops.proofs.Laws.{moves-are}
 use Rattle.overloops.proofs.moves.Goals as goal

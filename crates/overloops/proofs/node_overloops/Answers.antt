@@ -1,6 +1,5 @@
 -- `overloops::node_overloops` meets its contract: the loops, each followed by each transition up.
 -- Assumes nothing.
-use borrow.Author.Rules.{rules}
 use Rattle.overloops.proofs.Laws.{overloops-formed}
 use Rattle.overloops.proofs.node_overloops.Goals as goal
 

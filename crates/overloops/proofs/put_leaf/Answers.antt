@@ -1,6 +1,5 @@
 -- `overloops::put_leaf` meets its contract: the rows of a node without parts go to the leaf's place.
 -- Assumes nothing.
-use borrow.Author.Rules.{rules}
 use Rattle.overloops.proofs.Laws.{leaf-formed}
 use Rattle.overloops.proofs.put_leaf.Goals as goal
 

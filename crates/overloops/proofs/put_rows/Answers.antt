@@ -1,11 +1,9 @@
 -- `overloops::put_rows` meets its contract. The invariant: the first p rows are written.
 -- Assumes nothing.
 use borrow.Author.Rules.{rules}
-use Prim.Native.Nat.{◌-◌, ◌≤◌}
 use mathlib.Core.Path.{◌≡◌, refl}
 use native.Mathlib.Omega.{arith}
-use lib.ListN.{length, length-set}
-use Rattle.overloops.specs.Tables.{PutFirst}
+use lib.ListN.{length-set}
 use Rattle.overloops.proofs.Laws.{put-none, put-more}
 use Rattle.overloops.proofs.put_rows.Goals as goal
 

@@ -1,12 +1,9 @@
 -- `overloops::put_rows` meets its contract. The invariant: the first p rows are written.
 -- Assumes nothing.
-use borrow.Author.Rules.{rules}
 use Prim.Native.Nat.{◌-◌, ◌≤◌}
-use mathlib.Core.Path.{◌≡◌, refl}
-use native.Mathlib.Omega.{arith}
-use lib.ListN.{length, length-set}
+use mathlib.Core.Path.{◌≡◌}
+use lib.ListN.{length}
 use Rattle.overloops.specs.Tables.{PutFirst}
-use Rattle.overloops.proofs.Laws.{put-none, put-more}
 use Rattle.overloops.proofs.put_rows.Given as goal
 
 abbrev pub invariant-loop-p : goal.invariant-loop-p

@@ -1,10 +1,10 @@
 -- `overloops::rows_at` meets its contract. The invariant: the first p rows are those of the table.
 -- Assumes nothing.
 use borrow.Author.Rules.{rules}
-use Prim.Native.Nat.{ℕ, ◌-◌, ◌≤◌}
-use mathlib.Core.Path.{◌≡◌, refl, sym}
-use lib.ListN.{length, take, drop, replicate, length-set}
-use Rattle.relation.proofs.Over.{over, over-turn, over_done}
+use Prim.Native.Nat.{ℕ}
+use mathlib.Core.Path.{refl, sym}
+use lib.ListN.{take, drop, replicate, length-set}
+use Rattle.relation.proofs.Over.{over-turn, over_done}
 use Rattle.overloops.proofs.Laws.{part_length, part-at}
 use Rattle.overloops.proofs.rows_at.Goals as goal
 

@@ -1,11 +1,9 @@
 -- `overloops::rows_at` meets its contract. The invariant: the first p rows are those of the table.
 -- Assumes nothing.
-use borrow.Author.Rules.{rules}
-use Prim.Native.Nat.{ℕ, ◌-◌, ◌≤◌}
-use mathlib.Core.Path.{◌≡◌, refl, sym}
-use lib.ListN.{length, take, drop, replicate, length-set}
-use Rattle.relation.proofs.Over.{over, over-turn, over_done}
-use Rattle.overloops.proofs.Laws.{part_length, part-at}
+use Prim.Native.Nat.{◌-◌, ◌≤◌}
+use mathlib.Core.Path.{◌≡◌}
+use lib.ListN.{length, take, drop}
+use Rattle.relation.proofs.Over.{over}
 use Rattle.overloops.proofs.rows_at.Given as goal
 
 abbrev pub invariant-loop-p : goal.invariant-loop-p

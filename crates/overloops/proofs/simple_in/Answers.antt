@@ -1,6 +1,5 @@
 -- `overloops::simple_in` meets its contract: each call is one operation of the definition, or two.
 -- Assumes nothing.
-use borrow.Author.Rules.{rules}
 use Rattle.overloops.proofs.Laws.{simple-formed}
 use Rattle.overloops.proofs.simple_in.Goals as goal
 
