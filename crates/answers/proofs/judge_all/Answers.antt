@@ -20,8 +20,8 @@ use Rattle.answers.proofs.Eachwise.{each}
 use borrow.Author.Rules.{rules}
 use Rattle.answers.proofs.judge_all.Goals as goal
 
-both : (w s lent g : List ℕ) (o : Outcome) → o ≡ judged_all w s lent g → (o ≡ judged_all w s lent g) × Each w s o
-both w s lent g o e = (e, rw e (each w s lent g))
+right : (w s lent g : List ℕ) (o : Outcome) → o ≡ judged_all w s lent g → Each w s o
+right w s lent g o e = rw e (each w s lent g)
 
 pub judge_files-requires : goal.judge_files-requires
 judge_files-requires c =
@@ -31,7 +31,7 @@ judge_files-requires c =
     let told = c in file-limits (w) (h) (read)
 
 pub returns-in-Refused : goal.returns-in-Refused
-returns-in-Refused c = both _ _ _ _ _ (all-refused _ _ _ _ _ (sym c.load.ensures.0 ∙ c.in-Refused.is))
+returns-in-Refused c = let equal : _ ≡ _ = (all-refused _ _ _ _ _ (sym c.load.ensures.0 ∙ c.in-Refused.is)) in record { equals = equal; right = right _ _ _ _ _ equal }
 
 pub returns-in-Read : goal.returns-in-Read
 returns-in-Read c =
@@ -41,4 +41,4 @@ returns-in-Read c =
     let headed : Headed (automaton_of h (content w)) h c.load.new.table = file-headed w h _ read (loaded-read _ h w _ _ c.in-Read.is c.load.ensures.1) in
     let told = c in
     let e = c.judge_files.ensures _ (headed) in
-    both _ _ _ _ _ (all_read _ _ _ _ _ (read) _ _ _ e.0 e.1 e.2)
+    let equal : _ ≡ _ = (all_read _ _ _ _ _ (read) _ _ _ e.0 e.1 e.2) in record { equals = equal; right = right _ _ _ _ _ equal }

@@ -21,11 +21,10 @@ use Rattle.membership.specs.declared.Answer.{Answer}
 use Rattle.membership.proofs.Proved.{judged-right}
 use Rattle.judging.proofs.accepts.Goals as goal
 
-both : (w s : List ℕ) (r : Answer) → r ≡ judged w s → (r ≡ judged w s) × Demand2 w s r
-both w s r e = (e, rw e (judged-right w s))
+right : (w s : List ℕ) (r : Answer) → r ≡ judged w s → Demand2 w s r
+right w s r e = rw e (judged-right w s)
 
 pub accepts_file-requires : goal.accepts_file-requires
-unfolding judged
 unfolding judged
 accepts_file-requires c =
     let w : List ℕ = c.args.automaton.now in
@@ -35,13 +34,11 @@ accepts_file-requires c =
 
 pub returns-in-Refused : goal.returns-in-Refused
 unfolding judged
-unfolding judged
 returns-in-Refused c =
     let refused-is : Answer.Refused c.in-Refused.refusal ≡ judged c.args.automaton.now c.args.tree.now = rw (sym c.load.ensures.0 ∙ c.in-Refused.is) in
-    both _ _ _ (refused-is)
+    let equal : _ ≡ _ = (refused-is) in record { equals = equal; right = right _ _ _ equal }
 
 pub returns-in-Read : goal.returns-in-Read
-unfolding judged
 unfolding judged
 returns-in-Read c =
     let w : List ℕ = c.args.automaton.now in
@@ -49,4 +46,4 @@ returns-in-Read c =
     let read : parsed w ≡ Parsed.Read h = sym c.load.ensures.0 ∙ c.in-Read.is in
     let headed : Headed (automaton_of h (content w)) h c.load.new.table = file-headed w h _ read (loaded-read _ h w _ _ c.in-Read.is c.load.ensures.1) in
     let judged-is : c.accepts_file.result ≡ judged c.args.automaton.now c.args.tree.now = let told = c in rw (read) (c.accepts_file.ensures _ (headed)) in
-    both _ _ _ (judged-is)
+    let equal : _ ≡ _ = (judged-is) in record { equals = equal; right = right _ _ _ equal }

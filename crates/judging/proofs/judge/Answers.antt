@@ -24,14 +24,16 @@ use Rattle.membership.specs.declared.Judged.{Judged}
 use Rattle.membership.proofs.Proved.{judged-right, growth-right}
 use Rattle.judging.proofs.judge.Goals as goal
 
-all : (w s : List ℕ) (r : Judged) → r ≡ judged_with w s → (r ≡ judged_with w s) × (Demand2 w s r.answer × GrowthRight w s r)
-all w s r e = (e, (rw e (judged-right w s), rw e (growth-right w s)))
+right : (w s : List ℕ) (r : Judged) → r ≡ judged_with w s → Demand2 w s r.answer
+right w s r e = rw e (judged-right w s)
+
+grown : (w s : List ℕ) (r : Judged) → r ≡ judged_with w s → GrowthRight w s r
+grown w s r e = rw e (growth-right w s)
 
 with-sum : {a b : Answer} {g n : ℕ} → a ≡ b → g ≡ n → ◌≡◌ {A = Judged} (record { answer = a; growth = g }) (record { answer = b; growth = n })
 with-sum e f = rw (e, f)
 
 pub judge_file-requires : goal.judge_file-requires
-unfolding judged growth_judged
 unfolding judged growth_judged
 judge_file-requires c =
     let w : List ℕ = c.args.automaton.now in
@@ -41,13 +43,11 @@ judge_file-requires c =
 
 pub returns-in-Refused : goal.returns-in-Refused
 unfolding judged growth_judged
-unfolding judged growth_judged
 returns-in-Refused c =
     let refused-is : ◌≡◌ {A = Judged} (record { answer = Answer.Refused c.in-Refused.refusal; growth = 0 }) (judged_with c.args.automaton.now c.args.tree.now) = rw (sym c.load.ensures.0 ∙ c.in-Refused.is) in
-    all _ _ _ (refused-is)
+    record { equals = refused-is; right = right _ _ _ refused-is; grown = grown _ _ _ refused-is }
 
 pub returns-in-Read : goal.returns-in-Read
-unfolding judged growth_judged
 unfolding judged growth_judged
 returns-in-Read c =
     let w : List ℕ = c.args.automaton.now in
@@ -57,4 +57,4 @@ returns-in-Read c =
     let judged-is : c.judge_file.result ≡ judged_with c.args.automaton.now c.args.tree.now = let told = c in
         let both = c.judge_file.ensures _ (headed) in
         rw (read) (with-sum both.0 both.1) in
-    all _ _ _ (judged-is)
+    record { equals = judged-is; right = right _ _ _ judged-is; grown = grown _ _ _ judged-is }
