@@ -1,7 +1,5 @@
 -- `membership::close_tree` meets its contract: the parts of the root stand after it.
 -- Assumes nothing.
-use borrow.Author.Rules.{rules}
-use borrow.Author.Tests.{not-true, not-false}
 use native.Mathlib.Omega.{arith}
 use mathlib.Core.Path.{sym, ap₂, ◌∙◌}
 use Rattle.algorithms.specs.Overloops.{node_loops, loops}

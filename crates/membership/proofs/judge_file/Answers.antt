@@ -2,7 +2,6 @@
 -- Assumes nothing.
 -- the file reads
 -- acceptance and sum are the automaton's
-use borrow.Author.Rules.{rules}
 use Prim.Native.Nat.{ℕ, ◌<◌}
 use mathlib.Core.Path.{◌≡◌, sym, ap, ◌∙◌}
 use mathlib.Core.List.{List}
@@ -76,11 +75,11 @@ returns-in-Nodes c =
     let nodes_are : take k c.read_tree.new.nodes ≡ nodes_of k (content s) = front-is signature s k _ _ _ c.in-Nodes.is c.read_tree.ensures.1 read in
     let symbols-below : (i : ℕ) → i < length (nodes_of k (content s)) → get_or (nodes_of k (content s)) i 0 < h.symbols = below_at h.symbols (nodes_of k (content s)) (rw read.tree.text (shaped-over signature _ read.tree.over).1) in
     let weighed-is : (A : Automaton) → Headed A (h) c.args.table.now →
-        let told = c in
-        let t = tree_of (h).branches (nodes_of (k) (content (s))) in
-        (c.weigh-weighed.result.accepted ≡ accepts? A t) × (c.weigh-weighed.result.growth ≡ growths A Place.Root t) = λ A r. let told = c in
-        c.weigh-weighed.ensures A r (rw (nodes_are) (symbols-below)) (tree_of (h).branches (nodes_of (k) (content (s))))
-        (rw (nodes_are) (read).stands) in
+    let told = c in
+    let t = tree_of (h).branches (nodes_of (k) (content (s))) in
+    (c.weigh-weighed.result.accepted ≡ accepts? A t) × (c.weigh-weighed.result.growth ≡ growths A Place.Root t) = λ A r. let told = c in
+    c.weigh-weighed.ensures A r (rw (nodes_are) (symbols-below)) (tree_of (h).branches (nodes_of (k) (content (s))))
+    (rw (nodes_are) (read).stands) in
     λ A r.
     let is = weighed-is A r in
     let told = c in

@@ -1,6 +1,5 @@
 -- `membership::weigh` meets its contract: a loop at the root leads from an initial state to a final one.
 -- Assumes nothing.
-use borrow.Author.Rules.{rules}
 use Rattle.membership.proofs.Laws.{accepts-by}
 use Rattle.membership.proofs.weigh.Goals as goal
 

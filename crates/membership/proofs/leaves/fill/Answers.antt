@@ -1,12 +1,7 @@
 -- `membership::leaves::fill` meets its contract. The invariant: the leaf symbols below the symbol are filled in.
 -- Assumes nothing.
 use borrow.Author.Rules.{rules}
-use Prim.Native.Nat.{◌-◌, ◌≤◌}
 use mathlib.Core.Path.{◌≡◌}
-use lib.ListN.{length}
-use Rattle.algorithms.specs.Automaton.{Automaton}
-use Rattle.overloops.specs.Tables.{Tabled}
-use Rattle.membership.specs.LeafTables.{LeafParts}
 use Rattle.membership.proofs.LeafTables.{no-parts}
 use Rattle.membership.proofs.leaves.fill.Goals as goal
 

@@ -1,6 +1,5 @@
 -- `membership::leaves::put_symbol` meets its contract.
 -- Assumes nothing.
-use borrow.Author.Rules.{rules}
 use mathlib.Core.Path.{sym, ◌∙◌}
 use Rattle.membership.proofs.LeafTables.{branch-passed, leaf-passed}
 use Rattle.membership.proofs.leaves.put_symbol.Goals as goal
