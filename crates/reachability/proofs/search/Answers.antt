@@ -14,15 +14,6 @@ use Rattle.reachability.specs.Searched.{Searched}
 use Rattle.reachability.proofs.Ending.{searched-first, searched-on, found, not_found}
 use Rattle.reachability.proofs.search.Goals as goal
 
-reached-same : (c : tie.At-loop invariant-loop decreases-loop) → length c.loop.reached ≡ length c.before.before.before.before.before.before.before.args.reached.now
-reached-same c = c.loop.invariant.0 ∙ length-set c.before.before.before.before.before.before.before.args.reached.now 0 c.before.before.before.before.before.before.before.args.header.initial
-
-fresh-same : (c : tie.At-loop invariant-loop decreases-loop) → length c.loop.fresh ≡ length c.before.before.before.before.before.before.before.args.fresh.now
-fresh-same c = c.loop.invariant.1 ∙ length-set c.before.before.before.before.before.before.before.args.fresh.now 0 c.before.before.before.before.before.before.before.args.header.initial
-
-taken-node : (c : tie.Else2 invariant-loop decreases-loop) → c.before.pop.result.node < length c.before.before.before.before.before.before.before.before.before.before.before.before.before.before.args.symbols.now
-taken-node c = omega (arith, c.before.pop.ensures.1.within, c.if2.false)
-
 pub loop-reached-init : goal.loop-reached-init
 loop-reached-init c =
     let start = c in
@@ -36,59 +27,76 @@ loop-reached-init c =
     )
 
 pub bounds-reached-0-in-loop-reached : goal.bounds-reached-0-in-loop-reached
-bounds-reached-0-in-loop-reached c = omega (arith, reached-same c, c.requires.0, c.requires.4)
+bounds-reached-0-in-loop-reached c =
+    let reached-same : length c.loop-reached.reached ≡ length c.args.reached.now = c.loop-reached.invariant.0 ∙ length-set c.args.reached.now 0 c.args.header.initial in
+    omega (arith, reached-same, c.requires.0, c.requires.4)
 
 pub pop-popped-requires : goal.pop-popped-requires
-pop-popped-requires c = (omega (arith, fresh-same c, c.before.before.before.before.before.before.before.before.before.before.before.before.requires.5), c.loop.invariant.3)
+pop-popped-requires c =
+    let fresh-same : length c.loop-reached.fresh ≡ length c.args.fresh.now = c.loop-reached.invariant.1 ∙ length-set c.args.fresh.now 0 c.args.header.initial in
+    (omega (arith, fresh-same, c.requires.5), c.loop-reached.invariant.3)
 
 pub shape_of-reached-then-node-symbols : goal.shape_of-reached-then-node-symbols
-shape_of-reached-then-node-symbols c = reached-same c
+shape_of-reached-then-node-symbols c =
+    let reached-same : length c.loop-reached.reached ≡ length c.args.reached.now = c.loop-reached.invariant.0 ∙ length-set c.args.reached.now 0 c.args.header.initial in
+    reached-same
 
 pub shape_of-fresh-then-node-symbols : goal.shape_of-fresh-then-node-symbols
-shape_of-fresh-then-node-symbols c = fresh-same c
+shape_of-fresh-then-node-symbols c =
+    let fresh-same : length c.loop-reached.fresh ≡ length c.args.fresh.now = c.loop-reached.invariant.1 ∙ length-set c.args.fresh.now 0 c.args.header.initial in
+    fresh-same
 
 pub shape_of-waiting-then-node-symbols : goal.shape_of-waiting-then-node-symbols
-shape_of-waiting-then-node-symbols c = c.loop.invariant.2
+shape_of-waiting-then-node-symbols c = c.loop-reached.invariant.2
 
 pub returns-then-node-symbols : goal.returns-then-node-symbols
 returns-then-node-symbols c =
     let at = c in
-    let start = at.before.before.before.before.before.before.before in (
+    let start = at in (
       λ e. clash (cc),
-      λ f. absurd (not_found _ _ _ _ _ at.loop.invariant.4 start.args.header.accepting start.requires.0 (c.pop-popped.ensures.1.none c.if-node-symbols.true) c.if1.true f),
+      λ f. absurd (not_found _ _ _ _ _ at.loop-reached.invariant.4 start.args.header.accepting start.requires.0 (c.pop-popped.ensures.1.none c.if-node-symbols.true) c.loop-reached-test.true f),
     )
 
 pub turn-height-requires : goal.turn-height-requires
 turn-height-requires c =
-    let p = c.before.before.before.before.before.before.before.before.before.before.before.before.before.before.before.before.before.requires in (
-      taken-node c,
+    let reached-same : length c.loop-reached.reached ≡ length c.args.reached.now = c.loop-reached.invariant.0 ∙ length-set c.args.reached.now 0 c.args.header.initial in
+    let fresh-same : length c.loop-reached.fresh ≡ length c.args.fresh.now = c.loop-reached.invariant.1 ∙ length-set c.args.fresh.now 0 c.args.header.initial in
+    let taken-node : c.pop-popped.result.node < length c.args.symbols.now = omega (arith, c.pop-popped.ensures.1.within, c.if-node-symbols.false) in
+    let p = c.requires in (
+      taken-node,
       p.1,
       p.2,
       p.3,
-      omega (arith, p.4, reached-same c),
-      omega (arith, p.5, fresh-same c),
+      omega (arith, p.4, reached-same),
+      omega (arith, p.5, fresh-same),
       c.pop-popped.ensures.0,
       p.6 _,
     )
 
 pub loop-reached-smaller : goal.loop-reached-smaller
-loop-reached-smaller c = c.turn-height.ensures.1.falls (c.pop-popped.ensures.1.some (taken-node c))
+loop-reached-smaller c =
+    let taken-node : c.pop-popped.result.node < length c.args.symbols.now = omega (arith, c.pop-popped.ensures.1.within, c.if-node-symbols.false) in
+    c.turn-height.ensures.1.falls (c.pop-popped.ensures.1.some (taken-node))
 
 pub loop-reached-preserved : goal.loop-reached-preserved
 loop-reached-preserved c =
-    let l = c.loop in (
-      c.reached-1.given ∙ l.invariant.0,
-      c.fresh-1.given ∙ l.invariant.1,
-      c.waiting-1.given ∙ l.invariant.2,
-      omega (arith, c.turn-height.ensures.0, c.waiting-1.given),
+    let l = c.loop-reached in (
+      c.turn-height.auto.reached ∙ l.invariant.0,
+      c.turn-height.auto.fresh ∙ l.invariant.1,
+      c.turn-height.auto.waiting ∙ l.invariant.2,
+      omega (arith, c.turn-height.ensures.0, c.turn-height.auto.waiting),
       searched-on _ _ _ _ _ c.turn-height.ensures.1 l.invariant.4,
     )
 
 pub shape_of-reached : goal.shape_of-reached
-shape_of-reached c = reached-same c
+shape_of-reached c =
+    let reached-same : length c.loop-reached.reached ≡ length c.args.reached.now = c.loop-reached.invariant.0 ∙ length-set c.args.reached.now 0 c.args.header.initial in
+    reached-same
 
 pub shape_of-fresh : goal.shape_of-fresh
-shape_of-fresh c = fresh-same c
+shape_of-fresh c =
+    let fresh-same : length c.loop-reached.fresh ≡ length c.args.fresh.now = c.loop-reached.invariant.1 ∙ length-set c.args.fresh.now 0 c.args.header.initial in
+    fresh-same
 
 pub shape_of-waiting : goal.shape_of-waiting
 shape_of-waiting c = c.loop-reached.invariant.2
