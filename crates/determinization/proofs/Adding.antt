@@ -11,7 +11,7 @@ use Rattle.model.specs.declared.Side.{Side}
 use Rattle.algorithms.specs.Automaton.{Automaton}
 use Rattle.overloops.specs.Tables.{side_number}
 use Rattle.class_tables.specs.Classes.{id_of, Node, Alike, Same}
-use Rattle.class_tables.specs.Cache.{index_at, word_in, Right, classes, indices, CachedIn}
+use Rattle.class_tables.specs.Cache.{index_at, word_in, classes, indices, CachedIn}
 
 -- counts that stay but for what is said
 pub record Counted (counts counts' : List ℕ) (n : ℕ) : Type 0 where

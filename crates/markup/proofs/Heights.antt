@@ -29,7 +29,7 @@ use Rattle.tags.specs.Tags.{and_tag, tags_in, tag_at, no_branch, bad_tag, nodes_
 use Rattle.markup.proofs.Unambiguous.{tags_of, text-tags, text-nodes}
 use Rattle.markup.specs.Checks.{tag_check, Signed}
 use Rattle.tags.specs.declared.Tag.{Tag}
-use Rattle.tags.specs.declared.Tag.TheVariants.{Opens as opens, Closes as closes}
+use Rattle.tags.specs.declared.Tag.TheVariants.{Closes as closes}
 use Rattle.tags.proofs.Listed.{from-here}
 
 -- each opening tag is of a branch symbol

@@ -123,6 +123,7 @@ module _ (A : Automaton) where
   -- the class is known where it is that of a row
   known_at : (x : Parts) (kept : List (Candidate M)) (i : ℕ) (c : Candidate M) → Nth kept i c → same_parts x c.class ≡ true → known M x kept ≡ true
   unfolding known
+  known_at x [] i c x3 t = elim x3 [ ]
   known_at x (r ∷ kept) zero c (here e) t = rw (e, t) refl
   known_at x (r ∷ kept) (suc i) c (there n) t = or-true (same_parts x r.class) (known M x kept) (known_at x kept i c n t)
     where

@@ -1,15 +1,10 @@
 -- Refusals 20, 21, 22 and 13: the tests in turn, and what is known where they pass.
 -- Assumes nothing.
 use Prim.Native.Nat.{ℕ, ◌≤◌, ◌<◌}
-use native.Mathlib.Omega.{arith}
-use mathlib.Core.Path.{◌≡◌, refl, subst}
-use mathlib.Core.Logic.{◌⊎◌, inl, inr}
-use mathlib.Core.List.{[], ◌∷◌}
+use mathlib.Core.Path.{◌≡◌, refl}
 use mathlib.Core.Bool.{Bool, true, false, not}
 use lib.Count.{ones}
 use lib.Dec.{eqb, ltb}
-use types.Run.{OneOf}
-use denote.Enum.Declared.{tag_of}
 use borrow.Author.Tests.{eq-eqb, ne_eqb, lt-ltb, le-ltb, eqb-true, ltb-false, not-false}
 use Rattle.algorithms.specs.Automaton.{Automaton}
 use Rattle.refusal.specs.Checks.{refused, refuse_if, ◌and_then◌}
@@ -19,21 +14,16 @@ use Rattle.refusal.specs.declared.Fault.{Fault}
 use Rattle.refusal.proofs.Passed.{clash, both-passed, if-passed}
 use Rattle.determinism.specs.Single.{single_if}
 use Rattle.determinism.specs.declared.Singleness.{Singleness}
-use Rattle.determinism.specs.contracts.Singleness.{the_type as singleness}
 use Rattle.watch.specs.Checks.{log_length, watch_check}
 
--- what single tells, as a test; `tag_of` is the variant's number
+-- what single tells, as a test
 pub told-single : (b : Bool) (r : Singleness) → r ≡ Singleness.Single → r ≡ single_if b → b ≡ true
 told-single true r f e = refl
 told-single false r f e = clash (cc)
 
-pub told-other : (b : Bool) (r : Singleness) → OneOf (1 ∷ 2 ∷ []) (tag_of singleness r) → r ≡ single_if b → b ≡ false
-told-other true r k e = none (subst (λ (x : Singleness). OneOf (1 ∷ 2 ∷ []) (tag_of singleness x)) e k)
-  where
-    none : (◌≡◌ {A = ℕ} 0 1) ⊎ (◌≡◌ {A = ℕ} 0 2) → true ≡ false
-    none (inl z) = absurd (omega arith)
-    none (inr z) = absurd (omega arith)
-told-other false r k e = refl
+pub told-other : (b : Bool) (r : Singleness) → ¬ (r ≡ Singleness.Single) → r ≡ single_if b → b ≡ false
+told-other true r n e = absurd (n e)
+told-other false r n e = refl
 
 module _ (single : Bool) (A : Automaton) (budget room : ℕ) where
   pub check-multiple : single ≡ false → refused Fault.Single 2 0 ≡ watch_check single A budget room

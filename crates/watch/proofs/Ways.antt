@@ -139,10 +139,10 @@ module _ (A : Automaton) (t : Tree) where
     iterated : {u : Tree} {i : ℕ} {c d : Config} → Numbered t i c.0 u → Run (Δ A) Root t c d
         → (m j : ℕ) × (v : Tree) × Numbered t j d.0 v × (iterate (after A t) m (i, c.1) ≡ at j d.1)
     unfolding iterate after
-    iterated {i = i} n done = (0, i, _, n, refl)
-    iterated {i = i} {c} n (◌then◌ {b = b} x r) =
+    iterated {u = u} {i = i} n done = (0, i, _, n, refl)
+    iterated {u = u} {i = i} {c} n (◌then◌ {b = b} x r) =
         let s = led-step A proper t n c.1 det x in
-        let rest = iterated s.2 r in (
+        let rest = iterated {u = s.1} {i = s.0} s.2 r in (
           suc rest.0,
           rest.1,
           rest.2,

@@ -1,15 +1,12 @@
 -- `approximation::formed` meets its contract. The invariant: what the branch symbols below the symbol form is joined to the sets.
 -- Assumes nothing.
-use borrow.Author.Rules.{rules}
 use Prim.Native.Nat.{◌-◌, ◌≤◌}
-use mathlib.Core.Path.{◌≡◌, refl, sym, ap, ◌∙◌}
-use mathlib.Core.Bool.{true, false}
-use mathlib.Core.Logic.{⊎_elim}
+use mathlib.Core.Path.{◌≡◌}
 use Rattle.algorithms.specs.Automaton.{Automaton, numbered}
 use Rattle.algorithms.specs.Saturate.{algebra_of}
 use Rattle.overloops.specs.Tables.{Tabled}
 use Rattle.classes.specs.Classes.{parts_in}
-use Rattle.approximation.proofs.Unions.{full-node_class, gathered, gathered_none, gathered-turn, branches-gathered}
+use Rattle.approximation.proofs.Unions.{gathered}
 use Rattle.approximation.proofs.formed.Given as goal
 
 abbrev pub invariant-loop-symbol : goal.invariant-loop-symbol

@@ -1,6 +1,5 @@
 -- `approximation::is_clear` meets its contract: the least sets, and the loops at the root with these for the parts.
 -- Assumes nothing.
-use borrow.Author.Rules.{rules}
 use mathlib.Core.Path.{ap, ◌∙◌}
 use mathlib.Core.Bool.{not}
 use Rattle.algorithms.specs.Approximate.{settled, least_parts, root_side, clear?}

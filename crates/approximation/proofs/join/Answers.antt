@@ -1,6 +1,5 @@
 -- `approximation::join` meets its contract.
 -- Assumes nothing.
-use borrow.Author.Rules.{rules}
 use mathlib.Core.Path.{ap₂}
 use Rattle.algorithms.specs.Saturate.{parts}
 use Rattle.approximation.proofs.join.Goals as goal

@@ -1,16 +1,12 @@
 -- `approximation::leaf_sets` meets its contract. The invariant: the leaves below the symbol are joined.
 -- Assumes nothing.
-use borrow.Author.Rules.{rules}
-use borrow.Author.Tests.{not-true, not-false}
 use Prim.Native.Nat.{◌-◌, ◌≤◌}
-use mathlib.Core.Path.{◌≡◌, refl, sym, ap, ap₂, ◌∙◌}
-use mathlib.Core.Bool.{true, false}
-use mathlib.Core.Logic.{⊎_elim}
+use mathlib.Core.Path.{◌≡◌}
 use Rattle.algorithms.specs.Automaton.{Automaton, Proper, numbered}
-use Rattle.algorithms.specs.Saturate.{parts, algebra_of}
+use Rattle.algorithms.specs.Saturate.{algebra_of}
 use Rattle.overloops.specs.Tables.{Leaves}
 use Rattle.classes.specs.Classes.{parts_in}
-use Rattle.approximation.proofs.Unions.{full-leaf_class, nothing, full-nothing, gathered, gathered_none, gathered-turn, leaves-gathered}
+use Rattle.approximation.proofs.Unions.{nothing, gathered}
 use Rattle.approximation.proofs.leaf_sets.Given as goal
 
 abbrev pub invariant-loop-symbol : goal.invariant-loop-symbol

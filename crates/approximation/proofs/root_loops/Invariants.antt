@@ -1,18 +1,11 @@
 -- `approximation::root_loops` meets its contract. The invariant: the loops of the symbols below the symbol are joined.
 -- Assumes nothing.
-use borrow.Author.Rules.{rules}
-use Prim.Native.Nat.{ℕ, ◌-◌, ◌≤◌}
-use mathlib.Core.Path.{◌≡◌, sym, ap, ap₂, ◌∙◌}
-use mathlib.Core.List.{List}
-use mathlib.Core.Logic.{⊎_elim}
-use Rattle.relation.specs.declared.Relation.{Relation}
-use Rattle.relation.specs.Rows.{joined}
+use Prim.Native.Nat.{◌-◌, ◌≤◌}
+use mathlib.Core.Path.{◌≡◌}
 use Rattle.algorithms.specs.Automaton.{Automaton}
 use Rattle.algorithms.specs.Saturate.{parts}
-use Rattle.algorithms.specs.Approximate.{union}
 use Rattle.overloops.specs.Tables.{Tabled}
-use Rattle.classes.specs.Classes.{parts_in}
-use Rattle.approximation.proofs.Unions.{at_root, root-branch, root-leaf, root-gathered}
+use Rattle.approximation.proofs.Unions.{at_root}
 use Rattle.approximation.proofs.root_loops.Given as goal
 
 abbrev pub invariant-loop-symbol : goal.invariant-loop-symbol

@@ -10,8 +10,6 @@ use native.Mathlib.Omega.{arith}
 use Rattle.algorithms.specs.Automaton.{Automaton}
 use Rattle.algorithms.specs.Saturate.{Parts, same_parts}
 use Rattle.algorithms.specs.Approximate.{formed, settled}
-use Rattle.overloops.specs.Ready.{Headed}
-use Rattle.classes.specs.Classes.{parts_in}
 use Rattle.approximation.proofs.settled.Goals as goal
 
 module _ (A : Automaton) (turn : ℕ) (x y : Parts) (l : turn < 1153) (f : y ≡ formed A x) where
@@ -42,15 +40,14 @@ returns-then-same c =
     sym (stops A at.turn _ _ (omega arith) formed-is (sym same-is ∙ c.if-same.true)) ∙ at.invariant.1 A k
 
 pub loop-turn-preserved : goal.loop-turn-preserved
-loop-turn-preserved c =
-    (
-      search rules,
-      λ A k.
-          let at = c.loop-turn in
-          let formed-is = c.formed-more.ensures A k in
-          let same-is = c.same.ensures in
-          sym (goes A at.turn _ _ (omega arith) formed-is (sym same-is ∙ c.if-same.false)) ∙ at.invariant.1 A k,
-    )
+loop-turn-preserved c = (
+  search rules,
+  λ A k.
+      let at = c.loop-turn in
+      let formed-is = c.formed-more.ensures A k in
+      let same-is = c.same.ensures in
+      sym (goes A at.turn _ _ (omega arith) formed-is (sym same-is ∙ c.if-same.false)) ∙ at.invariant.1 A k,
+)
 
 pub returns : goal.returns
 returns c = λ A k. sym (ends A c.loop-turn.turn _ (omega arith)) ∙ c.loop-turn.invariant.1 A k

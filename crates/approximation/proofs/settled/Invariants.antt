@@ -2,14 +2,10 @@
 -- Assumes nothing.
 -- one turn: nothing is new, or the rest goes on from what was formed
 -- no turn is left
-use borrow.Author.Rules.{rules}
-use Prim.Native.Nat.{ℕ, suc, ◌+◌, ◌-◌, ◌<◌, ◌≤◌}
-use mathlib.Core.Bool.{true, false}
-use mathlib.Core.Path.{◌≡◌, refl, sym, ◌∙◌}
-use native.Mathlib.Omega.{arith}
+use Prim.Native.Nat.{◌-◌, ◌≤◌}
+use mathlib.Core.Path.{◌≡◌}
 use Rattle.algorithms.specs.Automaton.{Automaton}
-use Rattle.algorithms.specs.Saturate.{Parts, same_parts}
-use Rattle.algorithms.specs.Approximate.{formed, settled}
+use Rattle.algorithms.specs.Approximate.{settled}
 use Rattle.overloops.specs.Ready.{Headed}
 use Rattle.classes.specs.Classes.{parts_in}
 use Rattle.approximation.proofs.settled.Given as goal

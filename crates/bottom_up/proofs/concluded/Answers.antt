@@ -4,7 +4,6 @@ use Rattle.bottom_up.proofs.Ending.{node-first, leaf_first}
 use Rattle.model.specs.declared.Side.{Side}
 use mathlib.Core.Path.{◌∙◌}
 use native.Mathlib.Omega.{arith}
-use borrow.Author.Rules.{rules}
 use Rattle.bottom_up.proofs.concluded.Goals as goal
 
 pub returns-then-symbol-gt31 : goal.returns-then-symbol-gt31

@@ -4,7 +4,6 @@ use Rattle.passes.proofs.Laws.{leaf-ended}
 use Rattle.bottom_up.proofs.Ending.{parts-ended}
 use mathlib.Core.Path.{sym, ◌∙◌}
 use native.Mathlib.Omega.{arith}
-use borrow.Author.Rules.{rules}
 use Rattle.bottom_up.proofs.ended.Goals as goal
 
 pub returns-then-is_branch : goal.returns-then-is_branch

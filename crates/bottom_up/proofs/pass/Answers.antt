@@ -2,16 +2,10 @@
 -- Assumes nothing.
 use borrow.Author.Rules.{rules}
 use Rattle.relation.proofs.Pairs.{zeros}
-use Prim.Native.Nat.{◌+◌, ◌-◌, ◌*◌, ◌≤◌, ◌<◌}
+use Prim.Native.Nat.{◌+◌}
 use native.Mathlib.Omega.{arith}
 use mathlib.Core.Path.{◌≡◌, refl, sym, ◌∙◌}
-use lib.ListN.{length, drop}
-use Rattle.algorithms.specs.Automaton.{Automaton}
-use Rattle.automaton.specs.File.{signature_in}
-use Rattle.overloops.specs.Tables.{Tabled}
 use Rattle.nodes.proofs.Reached.{symbol-here}
-use Rattle.class_tables.specs.Cache.{CachedIn}
-use Rattle.bottom_up.specs.Steps.{Loaded}
 use Rattle.passes.proofs.Laws.{from}
 use Rattle.bottom_up.proofs.Ending.{begun, whole, passed-more}
 use Rattle.bottom_up.proofs.pass.Goals as goal

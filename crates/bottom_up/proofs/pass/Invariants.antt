@@ -1,19 +1,12 @@
 -- `bottom_up::pass` meets its contract. The invariant: the stack tells of the trees that the list writes from a node on, and the sum is small.
 -- Assumes nothing.
-use borrow.Author.Rules.{rules}
-use Rattle.relation.proofs.Pairs.{zeros}
-use Prim.Native.Nat.{◌+◌, ◌-◌, ◌*◌, ◌≤◌, ◌<◌}
-use native.Mathlib.Omega.{arith}
-use mathlib.Core.Path.{◌≡◌, refl, sym, ◌∙◌}
+use Prim.Native.Nat.{◌-◌, ◌*◌, ◌≤◌, ◌<◌}
 use lib.ListN.{length, drop}
 use Rattle.algorithms.specs.Automaton.{Automaton}
 use Rattle.automaton.specs.File.{signature_in}
 use Rattle.overloops.specs.Tables.{Tabled}
-use Rattle.nodes.proofs.Reached.{symbol-here}
 use Rattle.class_tables.specs.Cache.{CachedIn}
 use Rattle.bottom_up.specs.Steps.{Loaded}
-use Rattle.passes.proofs.Laws.{from}
-use Rattle.bottom_up.proofs.Ending.{begun, whole, passed-more}
 use Rattle.bottom_up.proofs.pass.Given as goal
 
 abbrev pub invariant-loop-at : goal.invariant-loop-at

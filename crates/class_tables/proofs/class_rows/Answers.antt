@@ -1,7 +1,6 @@
 -- `class_tables::class_rows` meets its contract.
 -- Assumes nothing.
 use Rattle.class_tables.specs.Classes.{rows_of}
-use Rattle.std.proofs.Common.{rules}
 use Rattle.class_tables.proofs.class_rows.Goals as goal
 
 pub returns : goal.returns

@@ -1,7 +1,6 @@
 -- `class_tables::index_of` meets its contract.
 -- Assumes nothing.
-use Rattle.std.proofs.Common.{rules}
 use Rattle.class_tables.proofs.index_of.Goals as goal
 
 pub returns : goal.returns
-returns c = (rw c.index-place.ensures.0 at c.wide.ensures.0, c.wide.ensures.1)
+returns c = (rw c.index_place.ensures.0 at c.wide.ensures.0, c.wide.ensures.1)

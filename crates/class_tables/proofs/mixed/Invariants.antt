@@ -1,6 +1,6 @@
 -- `class_tables::mixed` is safe and ends.
 -- Assumes nothing.
-use Rattle.std.proofs.Common.{◌-◌, ◌<◌, ◌≤◌, rules}
+use Rattle.std.proofs.Common.{◌-◌, ◌<◌, ◌≤◌}
 use Rattle.class_tables.proofs.mixed.Given as goal
 
 abbrev pub invariant-loop-p : goal.invariant-loop-p

@@ -1,6 +1,5 @@
 -- `class_tables::put_side` meets its contract.
 -- Assumes nothing.
-use Rattle.std.proofs.Common.{rules}
 use Rattle.class_tables.proofs.put_side.Goals as goal
 
 pub returns : goal.returns

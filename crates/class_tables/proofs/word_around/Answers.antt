@@ -2,7 +2,6 @@
 -- Assumes nothing.
 use Rattle.class_tables.specs.Cache.{classes, Right}
 use Rattle.class_tables.proofs.Keeping.{word-right}
-use Rattle.std.proofs.Common.{rules}
 use Rattle.class_tables.proofs.word_around.Goals as goal
 
 pub returns : goal.returns

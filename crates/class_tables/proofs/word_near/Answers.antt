@@ -1,6 +1,6 @@
 -- `class_tables::word_near` meets its contract.
 -- Assumes nothing.
-use Rattle.std.proofs.Common.{◌-◌, ◌≤◌, arith, rules}
+use Rattle.std.proofs.Common.{arith}
 use Rattle.class_tables.proofs.word_near.Goals as goal
 
 pub returns-then-word-ne0 : goal.returns-then-word-ne0

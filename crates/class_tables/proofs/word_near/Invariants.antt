@@ -1,6 +1,6 @@
 -- `class_tables::word_near` meets its contract.
 -- Assumes nothing.
-use Rattle.std.proofs.Common.{◌-◌, ◌≤◌, arith, rules}
+use Rattle.std.proofs.Common.{◌-◌, ◌≤◌}
 use Rattle.class_tables.proofs.word_near.Given as goal
 
 abbrev pub invariant-loop-step : goal.invariant-loop-step

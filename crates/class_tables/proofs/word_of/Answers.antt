@@ -1,7 +1,6 @@
 -- `class_tables::word_of` meets its contract.
 -- Assumes nothing.
 use Rattle.class_tables.proofs.Keeping.{word-right}
-use Rattle.std.proofs.Common.{rules}
 use Rattle.class_tables.proofs.word_of.Goals as goal
 
 pub returns : goal.returns

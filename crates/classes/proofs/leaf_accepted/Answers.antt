@@ -1,6 +1,5 @@
 -- `classes::leaf_accepted` meets its contract: a loop at the root leads from an initial state to a final one.
 -- Assumes nothing.
-use borrow.Author.Rules.{rules}
 use Rattle.overloops.proofs.Laws.{accepted-by}
 use Rattle.classes.proofs.leaf_accepted.Goals as goal
 

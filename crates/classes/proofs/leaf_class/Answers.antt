@@ -1,6 +1,5 @@
 -- `classes::leaf_class` meets its contract: the leaf's overloops on both sides.
 -- Assumes nothing.
-use borrow.Author.Rules.{rules}
 use mathlib.Core.Path.{ap₂}
 use Rattle.algorithms.specs.Saturate.{parts}
 use Rattle.classes.proofs.leaf_class.Goals as goal

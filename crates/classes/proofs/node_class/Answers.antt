@@ -1,6 +1,5 @@
 -- `classes::node_class` meets its contract: the node's overloops on both sides.
 -- Assumes nothing.
-use borrow.Author.Rules.{rules}
 use mathlib.Core.Path.{ap₂}
 use Rattle.algorithms.specs.Saturate.{parts}
 use Rattle.classes.proofs.node_class.Goals as goal

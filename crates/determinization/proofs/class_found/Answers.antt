@@ -1,8 +1,6 @@
 -- `determinization::class_found` meets its contract.
 -- Assumes nothing.
 use native.Mathlib.Omega.{arith}
-use Prim.Native.Nat.{◌-◌, ◌≤◌}
-use borrow.Author.Rules.{rules}
 use Rattle.determinization.proofs.class_found.Goals as goal
 
 pub returns-then-is_class : goal.returns-then-is_class

@@ -1,7 +1,6 @@
 -- `determinization::is_class` meets its contract.
 -- Assumes nothing.
 use Rattle.relation.proofs.Pairs.{same-rows-eq}
-use borrow.Author.Tests.{not-false}
 use Prim.Native.Nat.{ℕ}
 use native.Mathlib.Omega.{arith}
 use mathlib.Core.Path.{◌≡◌, sym, ◌∙◌}

@@ -2,7 +2,6 @@
 -- Assumes nothing.
 use mathlib.Core.Path.{refl}
 use native.Mathlib.Omega.{arith}
-use borrow.Author.Rules.{rules}
 use Rattle.determinization.proofs.leaf_word.Goals as goal
 
 pub returns-then-word-ne0 : goal.returns-then-word-ne0

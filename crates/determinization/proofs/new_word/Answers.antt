@@ -2,7 +2,6 @@
 -- Assumes nothing.
 use Rattle.determinization.proofs.Computing.{node-computed}
 use native.Mathlib.Omega.{arith}
-use borrow.Author.Rules.{rules}
 use Rattle.determinization.proofs.new_word.Goals as goal
 
 pub returns-then-class-gt1023 : goal.returns-then-class-gt1023
@@ -13,6 +12,6 @@ returns c =
     λ A k h l r.
     let found = c.class_for-class.ensures A _ _ h in
     let small = c.if-class-gt1023.false in
-    let left = c.node_part.ensures.0 A k in
-    let right = c.node-part2.ensures.0 A k in
+    let left = c.node_part-l.ensures.0 A k in
+    let right = c.node_part-r.ensures.0 A k in
     node-computed A _ _ _ _ _ _ _ _ _ _ _ _ _ _ _ _ l r found.0 (found.1 (omega (arith, small))) c.word_with-word.ensures left right (c.keep.ensures A _ _)

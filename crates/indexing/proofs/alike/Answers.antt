@@ -3,11 +3,9 @@
 -- what holds at each of the three places
 use Rattle.model.specs.declared.Side.{Side}
 use Rattle.model.specs.declared.Place.{Place}
-use borrow.Author.Tests.{not-false}
 use native.Mathlib.Omega.{arith}
 use Prim.Native.Nat.{ℕ}
 use mathlib.Core.Path.{◌≡◌}
-use borrow.Author.Rules.{rules}
 use Rattle.indexing.proofs.alike.Goals as goal
 
 each : (P : Place → Type 0) → P Place.Root → P (Place.Child Side.Left) → P (Place.Child Side.Right) → (τ : Place) → P τ
@@ -22,4 +20,4 @@ pub returns-then-not-alike_at-2 : goal.returns-then-not-alike_at-2
 returns-then-not-alike_at-2 c = λ e A k τ. let z : ◌≡◌ {A = ℕ} 0 1 = cc in absurd (omega arith)
 
 pub returns : goal.returns
-returns c = λ e A k. each _ (c.Alike-at.ensures (c.if-not-alike_at.false) A k) (c.alike_at-2.ensures (c.if-not-alike_at-2.false) A k) (c.alike_at-3.ensures e A k)
+returns c = λ e A k. each _ (c.alike_at.ensures (c.if-not-alike_at.false) A k) (c.alike_at-2.ensures (c.if-not-alike_at-2.false) A k) (c.alike_at-3.ensures e A k)

@@ -2,7 +2,6 @@
 -- Assumes nothing.
 use Rattle.relation.proofs.Pairs.{same-rows-eq}
 use mathlib.Core.Path.{sym, ◌∙◌}
-use borrow.Author.Rules.{rules}
 use Rattle.indexing.proofs.alike_at.Goals as goal
 
 pub returns : goal.returns

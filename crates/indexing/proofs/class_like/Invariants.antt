@@ -1,8 +1,6 @@
 -- `indexing::class_like` meets its contract.
 -- Assumes nothing.
-use native.Mathlib.Omega.{arith}
 use Prim.Native.Nat.{◌-◌, ◌≤◌}
-use borrow.Author.Rules.{rules}
 use Rattle.indexing.proofs.class_like.Given as goal
 
 abbrev pub invariant-loop-step : goal.invariant-loop-step

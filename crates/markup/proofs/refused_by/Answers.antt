@@ -1,6 +1,5 @@
 -- `markup::refused_by` meets its contract.
 -- Assumes nothing.
-use borrow.Author.Rules.{rules}
 use Rattle.markup.proofs.refused_by.Goals as goal
 
 pub returns-in-Refused : goal.returns-in-Refused

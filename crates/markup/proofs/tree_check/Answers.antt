@@ -1,7 +1,5 @@
 -- `markup::tree_check` meets its contract.
 -- Assumes nothing.
--- lines 10 to 12 pass the nodes, and so 19 and 12 pass the text
-use borrow.Author.Rules.{rules}
 use mathlib.Core.Path.{◌≡◌, sym, ap, ◌∙◌}
 use native.Mathlib.Omega.{arith}
 use lib.ListN.{length}
@@ -16,23 +14,24 @@ returns-then-is_branch c = rw (zero-tag c.args.signature c.args.text.now (sym c.
 
 pub refused_tree-requires : goal.refused_tree-requires
 refused_tree-requires c =
-    let q = c in
-    let n = q.requires.2 in
-    ((q.requires.0, q.requires.1, sym c.is_branch.ensures ∙ c.if-is_branch.false), (ap length n, rw (← n) (sym c.check.ensures ∙ c.in-Refused.is)))
+    let q = c.requires in
+    record {
+      signed = (q.0, q.1, sym c.is_branch.ensures ∙ c.if-is_branch.false);
+      count_value = (ap length q.2, rw (← q.2) (sym c.check.ensures ∙ c.in-Refused.is));
+    }
 
 pub returns-then-nodes-gt4096 : goal.returns-then-nodes-gt4096
 returns-then-nodes-gt4096 c =
-    let both-are : (tag_check c.args.signature c.args.text.now ≡ Passed) × (height_check (text_tree c.args.text.now) ≡ Passed) = let q = c in
-        nodes-passed q.args.signature q.args.text.now q.requires.0 q.requires.1 (sym c.is_branch.ensures ∙ c.if-is_branch.false)
-        (rw (← q.requires.2) (sym c.check.ensures ∙ c.in-Passed.is)) in
-    let q = c in
-    c.refused-then-nodes-gt4096.ensures ∙ sym (large-tree _ _ q.requires.1 (both-are).0 (rw (← q.requires.2) c.if-nodes-gt4096.true))
+    -- lines 10 to 12 pass the nodes, and so 19 and 12 pass the text
+    let both : (tag_check c.args.signature c.args.text.now ≡ Passed) × (height_check (text_tree c.args.text.now) ≡ Passed) =
+    nodes-passed c.args.signature c.args.text.now c.requires.0 c.requires.1 (sym c.is_branch.ensures ∙ c.if-is_branch.false)
+    (rw (← c.requires.2) (sym c.check.ensures ∙ c.in-Passed.is)) in
+    c.refused-then-nodes-gt4096.ensures ∙ sym (large-tree _ _ c.requires.1 both.0 (rw (← c.requires.2) c.if-nodes-gt4096.true))
 
 pub returns-else-nodes-gt4096 : goal.returns-else-nodes-gt4096
 returns-else-nodes-gt4096 c =
-    let both-are : (tag_check c.args.signature c.args.text.now ≡ Passed) × (height_check (text_tree c.args.text.now) ≡ Passed) = let q = c in
-        nodes-passed q.args.signature q.args.text.now q.requires.0 q.requires.1 (sym c.is_branch.ensures ∙ c.if-is_branch.false)
-        (rw (← q.requires.2) (sym c.check.ensures ∙ c.in-Passed.is)) in
-    let q = c in
-    let b = both-are in
-    sym (small-tree _ _ q.requires.1 b.0 (omega (arith, ap length q.requires.2, c.if-nodes-gt4096.false)) ∙ b.1)
+    -- lines 10 to 12 pass the nodes, and so 19 and 12 pass the text
+    let both : (tag_check c.args.signature c.args.text.now ≡ Passed) × (height_check (text_tree c.args.text.now) ≡ Passed) =
+    nodes-passed c.args.signature c.args.text.now c.requires.0 c.requires.1 (sym c.is_branch.ensures ∙ c.if-is_branch.false)
+    (rw (← c.requires.2) (sym c.check.ensures ∙ c.in-Passed.is)) in
+    sym (small-tree _ _ c.requires.1 both.0 (omega (arith, ap length c.requires.2, c.if-nodes-gt4096.false)) ∙ both.1)

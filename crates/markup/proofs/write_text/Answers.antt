@@ -1,7 +1,5 @@
 -- `markup::write_text` meets its contract.
 -- Assumes nothing.
--- the text is right, and its nodes are at the front of the list
-use borrow.Author.Rules.{rules}
 use mathlib.Core.Path.{◌≡◌, sym, ap, ◌∙◌}
 use native.Mathlib.Omega.{arith}
 use Prim.Native.Nat.{◌≤◌}
@@ -14,41 +12,38 @@ use Rattle.markup.proofs.write_text.Goals as goal
 
 pub returns-then-text-gt32768 : goal.returns-then-text-gt32768
 returns-then-text-gt32768 c =
-    let q = c in
-    text-told q.args.signature q.args.text.now q.args.out.now 32768 _ _ (text-long _ c.if-text-gt32768.true) c.refused.ensures c.refused_by.ensures
+    text-told c.args.signature c.args.text.now c.args.out.now 32768 _ _ (text-long _ c.if-text-gt32768.true) c.refused.ensures c.refused_by.ensures
 
 pub slice_bounds-nodes-end : goal.slice_bounds-nodes-end
 slice_bounds-nodes-end c =
-    let right : let q = c in
-        (text_check q.args.text.now ≡ Passed) × (c.in-Nodes.k ≡ length (nodes_in q.args.text.now)) = let q = c in
-        let h : length q.args.text.now ≤ 32768 = omega (arith, c.if-text-gt32768.false) in
-        read_right q.args.text.now c.read_text.result _ h c.read_text.ensures.0 c.in-Nodes.is in
+    -- the text is right, and its nodes are at the front of the list
+    let h : length c.args.text.now ≤ 32768 = omega (arith, c.if-text-gt32768.false) in
+    let right : (text_check c.args.text.now ≡ Passed) × (c.in-Nodes.k ≡ length (nodes_in c.args.text.now)) =
+    read_right c.args.text.now c.read_text.result _ h c.read_text.ensures.0 c.in-Nodes.is in
     let listed : take c.in-Nodes.k c.read_text.new.nodes ≡ nodes_in c.args.text.now = rw c.in-Nodes.is at c.read_text.ensures.1 in
-    omega (arith, (right).1, length-take c.in-Nodes.k c.read_text.new.nodes, ap length (listed))
+    omega (arith, right.1, length-take c.in-Nodes.k c.read_text.new.nodes, ap length listed)
 
 pub slice_bounds-write_nodes-end : goal.slice_bounds-write_nodes-end
 slice_bounds-write_nodes-end c =
-    let right : let q = c in
-        (text_check q.args.text.now ≡ Passed) × (c.in-Nodes.k ≡ length (nodes_in q.args.text.now)) = let q = c in
-        let h : length q.args.text.now ≤ 32768 = omega (arith, c.if-text-gt32768.false) in
-        read_right q.args.text.now c.read_text.result _ h c.read_text.ensures.0 c.in-Nodes.is in
+    -- the text is right, and its nodes are at the front of the list
+    let h : length c.args.text.now ≤ 32768 = omega (arith, c.if-text-gt32768.false) in
+    let right : (text_check c.args.text.now ≡ Passed) × (c.in-Nodes.k ≡ length (nodes_in c.args.text.now)) =
+    read_right c.args.text.now c.read_text.result _ h c.read_text.ensures.0 c.in-Nodes.is in
     let listed : take c.in-Nodes.k c.read_text.new.nodes ≡ nodes_in c.args.text.now = rw c.in-Nodes.is at c.read_text.ensures.1 in
-    (right).1 ∙ sym (ap length (listed))
+    right.1 ∙ sym (ap length listed)
 
 pub write_nodes-requires : goal.write_nodes-requires
 write_nodes-requires c =
-    let right : let q = c in
-        (text_check q.args.text.now ≡ Passed) × (c.in-Nodes.k ≡ length (nodes_in q.args.text.now)) = let q = c in
-        let h : length q.args.text.now ≤ 32768 = omega (arith, c.if-text-gt32768.false) in
-        read_right q.args.text.now c.read_text.result _ h c.read_text.ensures.0 c.in-Nodes.is in
+    -- the text is right, and its nodes are at the front of the list
+    let h : length c.args.text.now ≤ 32768 = omega (arith, c.if-text-gt32768.false) in
+    let right : (text_check c.args.text.now ≡ Passed) × (c.in-Nodes.k ≡ length (nodes_in c.args.text.now)) =
+    read_right c.args.text.now c.read_text.result _ h c.read_text.ensures.0 c.in-Nodes.is in
     let listed : take c.in-Nodes.k c.read_text.new.nodes ≡ nodes_in c.args.text.now = rw c.in-Nodes.is at c.read_text.ensures.1 in
-    (c.requires, (right).0, listed)
+    (c.requires, right.0, listed)
 
 pub returns-in-Wrong : goal.returns-in-Wrong
 returns-in-Wrong c =
-    let q = c in
-    let d = c in
-    let h : length q.args.text.now ≤ 32768 = omega (arith, c.if-text-gt32768.false) in
-    text-told q.args.signature q.args.text.now q.args.out.now _ _ _
-    (read-wrong q.args.text.now c.read_text.result _ h c.read_text.ensures.0 d.in-Wrong.is)
+    let h : length c.args.text.now ≤ 32768 = omega (arith, c.if-text-gt32768.false) in
+    text-told c.args.signature c.args.text.now c.args.out.now _ _ _
+    (read-wrong c.args.text.now c.read_text.result _ h c.read_text.ensures.0 c.in-Wrong.is)
     c.refused-in-Wrong.ensures c.refused_by-in-Wrong.ensures

@@ -1,6 +1,5 @@
 -- `representatives::class_at` meets its contract: both relations of the row.
 -- Assumes nothing.
-use borrow.Author.Rules.{rules}
 use mathlib.Core.Path.{ap₂}
 use Rattle.algorithms.specs.Saturate.{parts}
 use Rattle.representatives.proofs.class_at.Goals as goal

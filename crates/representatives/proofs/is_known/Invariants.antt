@@ -1,12 +1,9 @@
 -- `representatives::is_known` meets its contract. The invariant: none of the rows before is the one.
 -- Assumes nothing.
-use borrow.Author.Rules.{rules}
 use Prim.Native.Nat.{◌-◌, ◌≤◌}
-use mathlib.Core.Path.{◌≡◌, sym, ◌∙◌}
 use mathlib.Core.Bool.{false}
 use Rattle.algorithms.specs.Saturate.{parts}
 use Rattle.representatives.specs.Stored.{KnownIn}
-use Rattle.representatives.proofs.Table.{known_more}
 use Rattle.representatives.proofs.is_known.Given as goal
 
 abbrev pub invariant-loop-i : goal.invariant-loop-i

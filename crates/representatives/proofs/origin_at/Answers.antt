@@ -1,6 +1,5 @@
 -- `representatives::origin_at` meets its contract: the row's first three words, a byte each.
 -- Assumes nothing.
-use borrow.Author.Rules.{rules}
 use Rattle.representatives.proofs.Table.{origin-read}
 use Rattle.representatives.proofs.origin_at.Goals as goal
 

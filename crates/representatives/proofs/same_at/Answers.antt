@@ -1,6 +1,5 @@
 -- `representatives::same_at` meets its contract: the right relations are compared where the left are the same.
 -- Assumes nothing.
-use borrow.Author.Rules.{rules}
 use Rattle.representatives.proofs.Table.{both-same, left-differs}
 use Rattle.representatives.proofs.same_at.Goals as goal
 

@@ -16,4 +16,4 @@ returns c =
     let bytes : (c.args.origin.symbol.0 < 256) × (c.args.origin.left.0 < 256) × (c.args.origin.right.0 < 256) = (search rules, search rules, search rules) in
     let start = c in
     let a = start.args in
-    written a.row.0 _ _ _ (parts_in a.class) _ _ _ _ (search rules) c.put-origin-arg.given.0.1 (sizes).0 (sizes).1 c.put-origin.ensures c.put-rows.ensures c.put_rows-2.ensures (bytes).0 (bytes).1 (bytes).2
+    written a.row.0 _ _ _ (parts_in a.class) _ _ _ _ (search rules) (search rules) (sizes).0 (sizes).1 c.put_origin.ensures c.put_rows.ensures c.put_rows-2.ensures (bytes).0 (bytes).1 (bytes).2

@@ -1,12 +1,6 @@
 -- `watch::walk_nodes` meets its contract: the tables are filled, and the run is followed.
 -- Assumes nothing.
-use borrow.Author.Rules.{rules}
 use Rattle.watch.proofs.Holding.{tree-stands, most-low, walkable}
-use Rattle.watch.proofs.walk_nodes.Reads as reads
-use Rattle.links.proofs.link.Reads as link-reads
-use Rattle.steps.proofs.choose.Reads as choose-reads
-use Rattle.steps.proofs.lowest.Reads as lowest-reads
-use Rattle.watch.proofs.follow.follow.Reads as follow-reads
 use Rattle.watch.proofs.walk_nodes.Goals as goal
 
 pub overflow_mul-most : goal.overflow_mul-most

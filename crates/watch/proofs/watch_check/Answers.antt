@@ -15,9 +15,6 @@ use Rattle.automaton.specs.declared.Header.{Header}
 use Rattle.overloops.specs.Ready.{Headed}
 use Rattle.determinism.specs.Determined.{determined}
 use Rattle.watch.proofs.Checking.{told-single, told-other, check-multiple, check-starts, check-budget, check-room, check-passes}
-use Rattle.watch.proofs.watch_check.Reads as reads
-use Rattle.determinism.proofs.single_prepared.Reads as single-prepared-reads
-use Rattle.refusal.proofs.refused.Reads as refused-reads
 use Rattle.watch.proofs.watch_check.Goals as goal
 
 pub returns-in_default : goal.returns-in_default
@@ -25,7 +22,7 @@ returns-in_default c =
     λ A k.
     c.refused.ensures
     ∙ check-multiple (determined A) A _ _
-    (told-other (determined A) _ c.in_default.keys2
+    (told-other (determined A) _ c.in_default.not-Single
     (c.single_prepared.ensures A k.tabled.compiled k.symbols k.tabled.states))
 
 pub overflow_cast-starts : goal.overflow_cast-starts
@@ -38,10 +35,9 @@ returns-then-starts-ne1 c =
     let header : Header = c.args.header in
     let table : List ℕ = c.args.table.now in
     let single-is : (A : Automaton) → Headed A header table → determined A ≡ true = λ A k. told-single (determined A) _ c.in-Single.is
-        (c.single_prepared.ensures A k.tabled.compiled k.symbols k.tabled.states) in
+    (c.single_prepared.ensures A k.tabled.compiled k.symbols k.tabled.states) in
     let starts-are : (A : Automaton) → Headed A header table → ones header.initial ≡ ones A.initial = λ A k. ap ones (sym k.initial) in
     λ A k.
-    let told = c in
     c.refused-then-starts-ne1.ensures ∙ check-starts (determined A) A _ _ (single-is A k) _ (starts-are A k) c.if-starts-ne1.true
 
 pub returns-then-budget-gt20000 : goal.returns-then-budget-gt20000
@@ -49,10 +45,9 @@ returns-then-budget-gt20000 c =
     let header : Header = c.args.header in
     let table : List ℕ = c.args.table.now in
     let single-is : (A : Automaton) → Headed A header table → determined A ≡ true = λ A k. told-single (determined A) _ c.in-Single.is
-        (c.single_prepared.ensures A k.tabled.compiled k.symbols k.tabled.states) in
+    (c.single_prepared.ensures A k.tabled.compiled k.symbols k.tabled.states) in
     let starts-are : (A : Automaton) → Headed A header table → ones header.initial ≡ ones A.initial = λ A k. ap ones (sym k.initial) in
     λ A k.
-    let told = c in
     c.refused-then-budget-gt20000.ensures ∙ check-budget (determined A) A _ _ (single-is A k) _ (starts-are A k) c.if-starts-ne1.false c.if-budget-gt20000.true
 
 pub returns-then-room-budget : goal.returns-then-room-budget
@@ -60,10 +55,9 @@ returns-then-room-budget c =
     let header : Header = c.args.header in
     let table : List ℕ = c.args.table.now in
     let single-is : (A : Automaton) → Headed A header table → determined A ≡ true = λ A k. told-single (determined A) _ c.in-Single.is
-        (c.single_prepared.ensures A k.tabled.compiled k.symbols k.tabled.states) in
+    (c.single_prepared.ensures A k.tabled.compiled k.symbols k.tabled.states) in
     let starts-are : (A : Automaton) → Headed A header table → ones header.initial ≡ ones A.initial = λ A k. ap ones (sym k.initial) in
     λ A k.
-    let told = c in
     c.refused-then-room-budget.ensures
     ∙ check-room (determined A) A _ _ (single-is A k) _ (starts-are A k) c.if-starts-ne1.false c.if-budget-gt20000.false c.if-room-budget.true
 
@@ -72,8 +66,7 @@ returns c =
     let header : Header = c.args.header in
     let table : List ℕ = c.args.table.now in
     let single-is : (A : Automaton) → Headed A header table → determined A ≡ true = λ A k. told-single (determined A) _ c.in-Single.is
-        (c.single_prepared.ensures A k.tabled.compiled k.symbols k.tabled.states) in
+    (c.single_prepared.ensures A k.tabled.compiled k.symbols k.tabled.states) in
     let starts-are : (A : Automaton) → Headed A header table → ones header.initial ≡ ones A.initial = λ A k. ap ones (sym k.initial) in
     λ A k.
-    let told = c in
     check-passes (determined A) A _ _ (single-is A k) _ (starts-are A k) c.if-starts-ne1.false c.if-budget-gt20000.false c.if-room-budget.false

@@ -6,7 +6,6 @@ use native.Mathlib.Omega.{arith}
 use mathlib.Core.Path.{◌≡◌, sym, ap, ◌∙◌}
 use mathlib.Core.List.{List}
 use lib.ListN.{length, take, length-take}
-use borrow.Author.Rules.{rules}
 use Rattle.model.specs.declared.Signature.{Signature}
 use Rattle.blocks.specs.Blocks.{content}
 use Rattle.automaton.specs.declared.Header.{Header}
@@ -15,9 +14,6 @@ use Rattle.tree.specs.declared.file.ParsedTree.{ParsedTree}
 use Rattle.tree.proofs.Reading.{TreeRead, tree-read}
 use Rattle.membership.proofs.Laws.{front-is}
 use Rattle.watch.proofs.Telling.{file-refused, file-watched, held}
-use Rattle.watch.proofs.watch_file.Reads as reads
-use Rattle.tree.proofs.file.read_tree.Reads as read-tree-reads
-use Rattle.watch.proofs.watch_nodes.Reads as watch-nodes-reads
 use Rattle.watch.proofs.watch_file.Goals as goal
 
 pub slice_bounds-nodes-end : goal.slice_bounds-nodes-end
@@ -52,7 +48,6 @@ watch_nodes-requires c =
     let read_is : read_tree signature s ≡ ParsedTree.Nodes k = sym c.read_tree.ensures.0 ∙ c.in-Nodes.is in
     let read : TreeRead signature s k = tree-read signature s k read_is in
     let nodes_are : take k c.read_tree.new.nodes ≡ nodes_of k (content s) = front-is signature s k _ _ _ c.in-Nodes.is c.read_tree.ensures.1 read in
-    let told = c in
     let pre = c.requires in
     rw (nodes_are) (held _ _ _ pre.1.1 (s) (k) pre.0 (read))
 
@@ -69,6 +64,5 @@ returns-in-Nodes c =
     let read : TreeRead signature s k = tree-read signature s k read_is in
     let nodes_are : take k c.read_tree.new.nodes ≡ nodes_of k (content s) = front-is signature s k _ _ _ c.in-Nodes.is c.read_tree.ensures.1 read in
     λ A headed.
-    let told = c in
     file-watched A _ _ headed _ _ _ _ (read_is) _
     ((rw (nodes_are) at c.watch_nodes.ensures) (held A _ _ headed (s) (k) c.requires.0 (read)))

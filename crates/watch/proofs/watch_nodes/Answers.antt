@@ -4,16 +4,12 @@
 use mathlib.Core.Path.{◌≡◌, sym, ap, ◌∙◌}
 use lib.Count.{ones}
 use lib.ListN.{length}
-use borrow.Author.Rules.{rules}
 use Rattle.refusal.specs.declared.Check.TheVariants.{Passed}
 use Rattle.determinism.specs.Determined.{determined}
 use Rattle.watch.specs.Checks.{watch_check}
 use Rattle.watch.specs.Following.{Held}
 use Rattle.watch.proofs.Checking.{checks-passed}
 use Rattle.watch.proofs.Telling.{tree-refused, tree-walked}
-use Rattle.watch.proofs.watch_nodes.Reads as reads
-use Rattle.watch.proofs.walk_nodes.Reads as walk-nodes-reads
-use Rattle.watch.proofs.watch_check.Reads as watch-check-reads
 use Rattle.watch.proofs.watch_nodes.Goals as goal
 
 pub watch_check-requires : goal.watch_check-requires
@@ -28,7 +24,7 @@ returns-in-Refused c =
 pub walk_nodes-requires : goal.walk_nodes-requires
 walk_nodes-requires c =
     let passed : (held : Held c.args.header c.args.table.now c.args.nodes.now)
-        → watch_check (determined held.automaton) held.automaton c.args.budget (length c.args.log.now) ≡ Passed = λ held. sym (c.watch_check.ensures _ held.headed) ∙ c.in_default.is in
+    → watch_check (determined held.automaton) held.automaton c.args.budget (length c.args.log.now) ≡ Passed = λ held. sym (c.watch_check.ensures _ held.headed) ∙ c.in_default.is in
     let held = c.requires in
     let free = checks-passed _ _ _ _ (passed held) in
     (held, ap ones (sym held.headed.initial) ∙ free.one-start, free.low, free.enough)
@@ -36,7 +32,7 @@ walk_nodes-requires c =
 pub returns : goal.returns
 returns c =
     let passed : (held : Held c.args.header c.args.table.now c.args.nodes.now)
-        → watch_check (determined held.automaton) held.automaton c.args.budget (length c.args.log.now) ≡ Passed = λ held. sym (c.watch_check.ensures _ held.headed) ∙ c.in_default.is in
+    → watch_check (determined held.automaton) held.automaton c.args.budget (length c.args.log.now) ≡ Passed = λ held. sym (c.watch_check.ensures _ held.headed) ∙ c.in_default.is in
     λ held.
     tree-walked (determined held.automaton) held.automaton held.tree _ _ (passed held) _ held.headed.initial _ _
     (c.walk_nodes.ensures held)

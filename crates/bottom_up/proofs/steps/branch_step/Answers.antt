@@ -2,7 +2,6 @@
 -- Assumes nothing.
 use Rattle.bottom_up.proofs.Loading.{known, branch-on}
 use native.Mathlib.Omega.{arith}
-use borrow.Author.Rules.{rules}
 use Rattle.bottom_up.proofs.steps.branch_step.Goals as goal
 
 pub returns-then-stack-gt126 : goal.returns-then-stack-gt126

@@ -1,7 +1,6 @@
 -- `bottom_up::steps::leaf_met` meets its contract.
 -- Assumes nothing.
 use Rattle.bottom_up.proofs.Loading.{leaves-stay, leaf-met-more, as_before}
-use borrow.Author.Rules.{rules}
 use Rattle.bottom_up.proofs.steps.leaf_met.Goals as goal
 
 pub returns-then-met-ne0 : goal.returns-then-met-ne0

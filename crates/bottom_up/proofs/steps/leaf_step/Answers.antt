@@ -2,7 +2,6 @@
 -- Assumes nothing.
 use Rattle.bottom_up.proofs.Loading.{leaf-on}
 use native.Mathlib.Omega.{arith}
-use borrow.Author.Rules.{rules}
 use Rattle.bottom_up.proofs.steps.leaf_step.Goals as goal
 
 pub returns-then-stack-eq0 : goal.returns-then-stack-eq0

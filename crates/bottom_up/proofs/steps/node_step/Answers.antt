@@ -2,7 +2,6 @@
 -- Assumes nothing.
 use mathlib.Core.Path.{sym, ◌∙◌}
 use native.Mathlib.Omega.{arith}
-use borrow.Author.Rules.{rules}
 use Rattle.bottom_up.proofs.steps.node_step.Goals as goal
 
 pub returns-then-header-symbol : goal.returns-then-header-symbol

@@ -1,6 +1,5 @@
 -- `classes::Class::same` meets its contract: the left tables decide, or leave it to the right ones.
 -- Assumes nothing.
-use borrow.Author.Rules.{rules}
 use mathlib.Core.Path.{sym, ◌∙◌}
 use Rattle.classes.proofs.Class.same.Goals as goal
 

@@ -2,9 +2,6 @@
 -- Assumes nothing.
 use mathlib.Core.Path.{refl}
 use borrow.Author.Tests.{ne_eqb, eq-eqb}
-use borrow.Author.Rules.{rules}
-use Rattle.watch.proofs.follow.is_passing.Reads as reads
-use Rattle.relation.proofs.set.contains.Reads as contains-reads
 use Rattle.watch.proofs.follow.is_passing.Goals as goal
 
 pub returns-then-node-ne0 : goal.returns-then-node-ne0

@@ -2,8 +2,6 @@
 -- Assumes nothing.
 use native.Mathlib.Omega.{arith}
 use lib.ListN.{length-set}
-use borrow.Author.Rules.{rules}
-use Rattle.watch.proofs.follow.put_entry.Reads as reads
 use Rattle.watch.proofs.follow.put_entry.Goals as goal
 
 pub bounds-log-at-2 : goal.bounds-log-at-2
