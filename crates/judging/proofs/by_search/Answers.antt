@@ -11,15 +11,15 @@ pub overflow_add-last : goal.overflow_add-last
 overflow_add-last c = let few = (c.unpack-k.ensures (omega (arith, c.if-k-eq0.false))).few in search rules
 
 pub slice_bounds-judge_nodes-end : goal.slice_bounds-judge_nodes-end
-slice_bounds-judge_nodes-end c = (c.unpack.ensures (omega (arith, c.if1.false))).size
+slice_bounds-judge_nodes-end c = (c.unpack-k.ensures (omega (arith, c.if-k-eq0.false))).size
 
 pub judge_nodes-requires : goal.judge_nodes-requires
-judge_nodes-requires c = let few = (c.unpack.ensures (omega (arith, c.if1.false))).few in search rules
+judge_nodes-requires c = let few = (c.unpack-k.ensures (omega (arith, c.if-k-eq0.false))).few in search rules
 
 pub returns : goal.returns
 returns c =
     λ A k.
-    let n = c.unpack.result in
-    let u = c.unpack.ensures (omega (arith, c.if1.false)) in
+    let n = c.unpack-k.result in
+    let u = c.unpack-k.ensures (omega (arith, c.if-k-eq0.false)) in
     let same : 4 + n - 4 ≡ n = omega arith in
     judges A _ _ k _ _ _ u c.judge_nodes.result (rw (same, u.nodes) at (c.judge_nodes.ensures A k))

@@ -1,7 +1,6 @@
 -- `reachability::add` meets its contract: nothing is new, or the new states are stored as reached and as fresh.
 -- Assumes nothing.
 -- what is reached with the states added is a word
-use borrow.Author.Rules.{rules}
 use Prim.Native.Nat.{◌^◌, ◌<◌}
 use native.Mathlib.Omega.{arith}
 use lib.ListN.{get_or}
@@ -22,8 +21,8 @@ overflow_sub-fresh c = or-over _ _
 pub returns-then-before-ne0 : goal.returns-then-before-ne0
 returns-then-before-ne0 c =
     let all_small : bit_or (get_or c.args.reached.now c.args.node 0) c.args.states < 2 ^ 32 = let a = c.args in
-        let old : get_or a.reached.now a.node 0 < 2 ^ 32 = omega (arith, c.slice_known-1.given a.node) in
-        or_lt 32 _ a.states old (omega (arith, c.ranges.states)) in
+    let old : get_or a.reached.now a.node 0 < 2 ^ 32 = omega (arith, c.slice_known-1.given a.node) in
+    or_lt 32 _ a.states old (omega (arith, c.ranges.states)) in
     let known = c in
     let start = known in
     let a = start.args in
@@ -32,8 +31,8 @@ returns-then-before-ne0 c =
 pub returns : goal.returns
 returns c =
     let all_small : bit_or (get_or c.args.reached.now c.args.node 0) c.args.states < 2 ^ 32 = let a = c.args in
-        let old : get_or a.reached.now a.node 0 < 2 ^ 32 = omega (arith, c.slice_known-1.given a.node) in
-        or_lt 32 _ a.states old (omega (arith, c.ranges.states)) in
+    let old : get_or a.reached.now a.node 0 < 2 ^ 32 = omega (arith, c.slice_known-1.given a.node) in
+    or_lt 32 _ a.states old (omega (arith, c.ranges.states)) in
     let known = c in
     let start = known in
     let a = start.args in

@@ -1,6 +1,5 @@
 -- `reachability::descend` meets its contract: a leaf has no parts, and a branch has two.
 -- Assumes nothing.
-use borrow.Author.Rules.{rules}
 use borrow.Author.Tests.{ne_eqb}
 use Prim.Native.Nat.{◌+◌}
 use native.Mathlib.Omega.{arith}

@@ -1,12 +1,11 @@
 -- `reachability::images` meets its contract. The invariant: of the states that are not left the rows are joined, by each move.
 -- Assumes nothing.
 -- the lowest state left is below 24
-use borrow.Author.Rules.{rules}
-use Prim.Native.Nat.{◌+◌, ◌<◌}
+use Prim.Native.Nat.{◌<◌}
 use native.Mathlib.Omega.{arith}
 use mathlib.Core.Path.{◌≡◌, refl}
 use Rattle.relation.proofs.Members.{lowest-row, rest-falls}
-use Rattle.reachability.proofs.Imaging.{Joining, joining-none, joining-more, joining-done}
+use Rattle.reachability.proofs.Imaging.{joining-none, joining-more, joining-done}
 use Rattle.reachability.proofs.images.Goals as goal
 
 pub loop-rest-init : goal.loop-rest-init

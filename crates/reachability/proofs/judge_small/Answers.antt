@@ -1,7 +1,5 @@
 -- `reachability::judge_small` meets its contract: the tree is linked, and what the search finds is acceptance.
 -- Assumes nothing.
-use borrow.Author.Rules.{rules}
-use borrow.Author.Tests.{not-false}
 use native.Mathlib.Omega.{arith}
 use Rattle.relation.proofs.Pairs.{zeros}
 use Rattle.nodes.proofs.Signatures.{written_below}

@@ -1,7 +1,6 @@
 -- `reachability::pop` meets its contract: whatever the stack has, a node with fresh states is found, or the sweep finds none.
 -- Assumes nothing.
-use borrow.Author.Rules.{rules}
-use Prim.Native.Nat.{◌-◌, ◌≤◌}
+use Prim.Native.Nat.{◌-◌}
 use native.Mathlib.Omega.{arith}
 use Rattle.reachability.proofs.pop.Goals as goal
 

@@ -2,15 +2,11 @@
 -- Assumes nothing.
 -- the words are as many as they were
 -- the node that is taken is one of the tree
-use borrow.Author.Rules.{rules}
-use Prim.Native.Nat.{◌≤◌, ◌<◌}
+use Prim.Native.Nat.{◌<◌}
 use native.Mathlib.Omega.{arith}
 use mathlib.Core.Path.{◌≡◌, refl, ◌∙◌}
 use lib.ListN.{length, length-set}
 use Rattle.refusal.proofs.Passed.{clash}
-use Rattle.transitions.specs.Compiled.{next_in}
-use Rattle.reachability.specs.Growth.{weight}
-use Rattle.reachability.specs.Searched.{Searched}
 use Rattle.reachability.proofs.Ending.{searched-first, searched-on, found, not_found}
 use Rattle.reachability.proofs.search.Goals as goal
 

@@ -1,10 +1,6 @@
 -- `reachability::sweep` meets its contract. The invariant: the nodes passed have no fresh state.
 -- Assumes nothing.
-use borrow.Author.Rules.{rules}
-use Prim.Native.Nat.{ℕ, ◌-◌, ◌≤◌, ◌<◌}
 use native.Mathlib.Omega.{arith}
-use mathlib.Core.Path.{◌≡◌}
-use lib.ListN.{get_or}
 use Rattle.reachability.proofs.Ending.{none_more}
 use Rattle.reachability.proofs.sweep.Goals as goal
 

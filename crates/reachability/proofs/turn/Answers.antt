@@ -1,6 +1,5 @@
 -- `reachability::turn` meets its contract: the fresh states are taken, and their next states are added by the four moves.
 -- Assumes nothing.
-use borrow.Author.Rules.{rules}
 use native.Mathlib.Omega.{arith}
 use mathlib.Core.Path.{◌∙◌}
 use lib.ListN.{length-set}

@@ -60,7 +60,7 @@ shape_of-answers-then-not-part c =
     answers-size ∙ sym c.before.before.before.before.before.before.before.before.before.before.before.before.before.before.before.before.before.before.before.before.before.before.requires.2
 
 pub returns-then-not-part : goal.returns-then-not-part
-returns-then-not-part c = λ A k h. stopped _ A _ _ _ _ _ _ _ _ (read c A k h) (judged c A k h).1 c.count_all-tally.ensures (not-true _ c.if-not-part.true)
+returns-then-not-part c = λ A k h. stopped _ A _ _ _ _ _ _ _ _ (read c A k h) (judged c A k h).1 c.count_all-tally.ensures (c.if-not-part.true)
 
 pub shape_of-buffer-then-is_full : goal.shape_of-buffer-then-is_full
 shape_of-buffer-then-is_full c =
@@ -124,7 +124,7 @@ returns-then-all-lt65536 c =
     let size : length (take (held + got) buffer) ≡ held + got = length-take-le (held + got) buffer (omega (arith, buffer-size, all_fit)) in
     let j = c.judge-part.ensures in
     let s = take (held + got) (buffer) in
-    let on : (part).more ≡ true = not-false _ c.if-not-part.false in
+    let on : (part).more ≡ true = c.if-not-part.false in
     let short : length s < 65536 = omega (arith, size, c.if-all-lt65536.true) in
     let cut = left_cut s c.loop.answers (part) c.loop.invariant.1 j.2 j.3 (j.4 on) short in
     let left : held + got - (part).bytes ≡ length (drop (part).bytes s) = omega (arith, size, length-drop (part).bytes s) in
@@ -165,7 +165,7 @@ loop-header-smaller c =
     let size : length (take (held + got) buffer) ≡ held + got = length-take-le (held + got) buffer (omega (arith, buffer-size, all_fit)) in
     let j = c.judge-part.ensures in
     let s = take (held + got) (buffer) in
-    let on : (part).more ≡ true = not-false _ c.if-not-part.false in
+    let on : (part).more ≡ true = c.if-not-part.false in
     let whole : length s ≡ 65536 = omega (arith, size, all_fit, c.if-all-lt65536.false) in
     let some = some-file s c.loop.answers (part) c.loop.invariant.1 j.2 j.3 (j.4 on) whole j.6 in
     nearer c.loop.tally (tally) (answers) (part).files c.count_all-tally.ensures j.0 c.loop.invariant.3 some
@@ -181,7 +181,7 @@ loop-header-preserved c =
     let buffer-size : length buffer ≡ 65536 = c.read-part.ensures.3 ∙ c.loop.invariant.0 in
     let answers-size : length answers ≡ 384 = c.judge-part.ensures.1 ∙ c.loop.invariant.1 in
     let all_fit : held + got ≤ 65536 = c.read-part.ensures.0 in
-    let on : (part).more ≡ true = not-false _ c.if-not-part.false in
+    let on : (part).more ≡ true = c.if-not-part.false in
     let moved = c.move_front-held.ensures in (
       moved.1 ∙ buffer-size,
       answers-size,
