@@ -34,14 +34,14 @@ pub overflow_add-at : goal.overflow_add-at
 overflow_add-at c =
     let within : c.loop-header.at + c.judge_part-part.result.bytes ≤ length c.args.bytes.now = let e = c.judge_part-part.ensures in
         omega (arith, e.3, ap length c.back.ensures, length-drop c.loop-header.at c.args.bytes.now, c.loop-header.invariant.0) in
-    omega (arith, within, c.well-formed)
+    omega (arith, within, c.well_formed)
 
 pub returns-then-not-part : goal.returns-then-not-part
 returns-then-not-part c =
     λ A k.
     let v = c.loop-header.invariant.2 A k in
     let e = c.judge_part-part.ensures in
-    tally-ends A _ _ _ c.args.bytes.now _ _ _ c.loop-header.at _ v.1 c.back.ensures (e.5 A k v.0).1 c.count_all-tally.ensures (c.if-not-part.true)
+    tally-ends A _ _ _ c.args.bytes.now _ _ _ c.loop-header.at _ v.1 c.back.ensures (e.5 A k v.0).1 c.count_all-tally.ensures (not-true _ c.if-not-part.true)
 
 pub overflow_sub-bytes : goal.overflow_sub-bytes
 overflow_sub-bytes c =
@@ -54,7 +54,7 @@ returns-then-part-lt128 c =
     λ A k.
     let v = c.loop-header.invariant.2 A k in
     let e = c.judge_part-part.ensures in
-    let on = c.if-not-part.false in
+    let on = not-false _ c.if-not-part.false in
     tally-rest A _ _ _ c.args.bytes.now _ _ _ c.loop-header.at _ v.1 c.back.ensures (e.5 A k v.0).1 c.count_all-tally.ensures on (e.4 on) (omega (arith, c.if-part-lt128.true, c.loop-header.invariant.1)) _ _ (sym (length-drop (c.loop-header.at + c.judge_part-part.result.bytes) c.args.bytes.now)) c.count_rest.ensures
 
 pub loop-header-smaller : goal.loop-header-smaller
@@ -73,5 +73,5 @@ loop-header-preserved c =
   λ A k.
       let v = c.loop-header.invariant.2 A k in
       let told = e.5 A k v.0 in
-      (told.0, tally-goes-on A _ _ _ c.args.bytes.now _ _ _ c.loop-header.at _ v.1 c.back.ensures told.1 c.count_all-tally.ensures (c.if-not-part.false)),
+      (told.0, tally-goes-on A _ _ _ c.args.bytes.now _ _ _ c.loop-header.at _ v.1 c.back.ensures told.1 c.count_all-tally.ensures (not-false _ c.if-not-part.false)),
 )

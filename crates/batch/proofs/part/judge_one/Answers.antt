@@ -16,7 +16,7 @@ use Rattle.batch.proofs.part.judge_one.Goals as goal
 pub returns : goal.returns
 returns c =
     let args = c.args in
-    let n = c.Numbers-of in
+    let n = c.numbers_of-numbers in
     let put = c.put_numbers.ensures in
     let sum = c.put_growth.ensures in (
       ap length put ∙ length-sets args.answers.now args.at (get_or n.result 0 0 ∷ get_or n.result 1 0 ∷ get_or n.result 2 0 ∷ []),

@@ -34,7 +34,7 @@ pub returns-then-length-eq0 : goal.returns-then-length-eq0
 returns-then-length-eq0 c = let v = c.loop-more.invariant in (v.0, v.1, v.2, v.3, (λ e. inl (c.whole_length-length.ensures.1 c.if-length-eq0.true)), v.4, v.5, v.6, v.7)
 
 pub overflow_add-end : goal.overflow_add-end
-overflow_add-end c = let n = c.whole_length-length.ensures.0 (omega (arith, c.if-length-eq0.false)) in omega (arith, n.2, c.well-formed)
+overflow_add-end c = let n = c.whole_length-length.ensures.0 (omega (arith, c.if-length-eq0.false)) in omega (arith, n.2, c.well_formed)
 
 pub slice_bounds-judge_one-end : goal.slice_bounds-judge_one-end
 slice_bounds-judge_one-end c = (c.whole_length-length.ensures.0 (omega (arith, c.if-length-eq0.false))).2
