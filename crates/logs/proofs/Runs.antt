@@ -76,14 +76,14 @@ module _ (A : Automaton) (t : Tree) where
   unfolding run_after
   traced-after e es zero n h r = omega arith
   traced-after e [] (suc k) n h r = absurd (omega arith)
-  traced-after {α = α} {d = d} e (f ∷ es) (suc k) n h r =
+  traced-after {α = α} {u = u} {d = d} e (f ∷ es) (suc k) n h r =
       let second = traced-second r refl in
       let at = traced-first second.2 in
       let same : second.0 ≡ (second.0.0, f.1) = ap (λ (q : ℕ). (second.0.0, q)) (sym at.2) in
       let l : Led A t α e.1 f.0 f.1 =
       record { position = second.0.0; tree = at.0; named = at.1; step = subst (λ (x : Config). Step (Δ A) Root t (α, e.1) x) same second.1 } in
       let on = led-leads A t n e.1 f.0 f.1 l in
-      let later = traced-after f es k at.1 (omega arith) (subst (λ (x : Config). Traced A t x (f ∷ take k es) d) same second.2) in
+      let later = traced-after {α = second.0.0} {u = at.0} {d = d} f es k at.1 (omega arith) (subst (λ (x : Config). Traced A t x (f ∷ take k es) d) same second.2) in
       rw on (omega (arith, later))
 
   -- ---- all entries

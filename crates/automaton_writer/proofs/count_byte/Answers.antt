@@ -1,6 +1,5 @@
 -- `automaton_writer::count_byte` meets its contract.
 -- Assumes nothing.
-use borrow.Author.Rules.{rules}
 use native.Mathlib.Omega.{arith}
 use mathlib.Core.Path.{sym}
 use Rattle.automaton.specs.Payload.{payload_of}

@@ -1,6 +1,5 @@
 -- `automaton_writer::write_automaton` meets its contract.
 -- Assumes nothing.
-use borrow.Author.Rules.{rules}
 use native.Mathlib.Omega.{arith}
 use mathlib.Core.Path.{◌≡◌, ap}
 use lib.ListN.{length, take, length-append}
@@ -15,18 +14,18 @@ slice_bounds-payload-end c = let w = c.write_payload-len.ensures in omega (arith
 pub slice_bounds-write_file-end : goal.slice_bounds-write_file-end
 slice_bounds-write_file-end c =
     let payload-is : take c.write_payload-len.result c.write_payload-len.new.payload
-        ≡ payload_of c.args.header c.args.records.now = front _ _ _ _ c.write_payload-len.ensures.0 c.write_payload-len.ensures.1 in
+    ≡ payload_of c.args.header c.args.records.now = front _ _ _ _ c.write_payload-len.ensures.0 c.write_payload-len.ensures.1 in
     rw (payload-is) c.write_payload-len.ensures.0
 
 pub write_file-requires : goal.write_file-requires
 write_file-requires c =
     let payload-is : take c.write_payload-len.result c.write_payload-len.new.payload
-        ≡ payload_of c.args.header c.args.records.now = front _ _ _ _ c.write_payload-len.ensures.0 c.write_payload-len.ensures.1 in
+    ≡ payload_of c.args.header c.args.records.now = front _ _ _ _ c.write_payload-len.ensures.0 c.write_payload-len.ensures.1 in
     let s = c in
     rw (payload-is, payload-length s.args.header s.args.records.now) s.requires.1
 
 pub returns : goal.returns
 returns c =
     let payload-is : take c.write_payload-len.result c.write_payload-len.new.payload
-        ≡ payload_of c.args.header c.args.records.now = front _ _ _ _ c.write_payload-len.ensures.0 c.write_payload-len.ensures.1 in
+    ≡ payload_of c.args.header c.args.records.now = front _ _ _ _ c.write_payload-len.ensures.0 c.write_payload-len.ensures.1 in
     rw (payload-is) at c.write_file.ensures

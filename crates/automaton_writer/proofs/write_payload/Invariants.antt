@@ -1,15 +1,10 @@
 -- `automaton_writer::write_payload` meets its contract.
 -- Assumes nothing.
-use borrow.Author.Rules.{rules}
-use native.Mathlib.Omega.{arith}
-use Prim.Native.Nat.{◌+◌, ◌-◌, ◌<◌, ◌≤◌}
-use mathlib.Core.Path.{◌≡◌, refl, sym, ap}
+use Prim.Native.Nat.{◌-◌, ◌≤◌}
+use mathlib.Core.Path.{◌≡◌}
 use mathlib.Core.List.{◌++◌}
-use lib.ListN.{length, take, drop, length-set}
-use lib.Seq.{take_all}
-use Rattle.blocks.proofs.Laws.{copied_more}
+use lib.ListN.{length, take, drop}
 use Rattle.automaton.specs.Payload.{payload_of}
-use Rattle.automaton_writer.proofs.Bytes.{payload-length}
 use Rattle.automaton_writer.proofs.write_payload.Given as goal
 
 abbrev pub invariant-loop-i : goal.invariant-loop-i

@@ -1,6 +1,5 @@
 -- `candidates::round` meets its contract: the leaf symbols in round 0, the branch symbols later.
 -- Assumes nothing.
-use borrow.Author.Rules.{rules}
 use Rattle.candidates.proofs.Rounds.{leaves-tried, branches-tried}
 use Rattle.candidates.proofs.round.Goals as goal
 
@@ -10,8 +9,7 @@ returns-then-height-eq0 c =
     (c.try_leaves.ensures.0, λ A k base h e f s. leaves-tried A _ _ k.headed _ base _ zero (f zero) (c.try_leaves.ensures.1 A k))
 
 pub returns-else-height-eq0 : goal.returns-else-height-eq0
-returns-else-height-eq0 c =
-    (
-      c.try_branches.ensures.0,
-      λ A k base h e f s. branches-tried A _ _ k.headed _ base _ _ c.if-height-eq0.false e (c.try_branches.ensures.1 A k.headed base h e s),
-    )
+returns-else-height-eq0 c = (
+  c.try_branches.ensures.0,
+  λ A k base h e f s. branches-tried A _ _ k.headed _ base _ _ c.if-height-eq0.false e (c.try_branches.ensures.1 A k.headed base h e s),
+)

@@ -1,9 +1,8 @@
 -- `candidates::try_branches` meets its contract. The invariant: the branch symbols before were tried.
 -- Assumes nothing.
 -- one turn
-use borrow.Author.Rules.{rules}
-use Prim.Native.Nat.{◌+◌, ◌-◌, ◌≤◌}
-use mathlib.Core.Path.{◌≡◌, refl}
+use Prim.Native.Nat.{◌-◌, ◌≤◌}
+use mathlib.Core.Path.{◌≡◌}
 use mathlib.Core.List.{List, flat_map}
 use lib.ListN.{length}
 use Rattle.model.specs.Saturation.{Candidate}
@@ -12,8 +11,6 @@ use Rattle.algorithms.specs.Saturate.{algebra_of}
 use Rattle.overloops.specs.Ready.{Headed}
 use Rattle.candidates.specs.Tries.{over_rows, Keeps, Skips, Tries}
 use Rattle.candidates.specs.declared.Tried.{Tried}
-use Rattle.classes.proofs.Symbols.{set_snoc, set_split}
-use Rattle.candidates.proofs.Trying.{begun, turn, ended, few-kept}
 use Rattle.candidates.proofs.try_branches.Given as goal
 
 abbrev pub invariant-loop-symbol : goal.invariant-loop-symbol

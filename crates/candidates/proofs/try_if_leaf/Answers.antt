@@ -12,10 +12,9 @@ pub returns-then-is_branch : goal.returns-then-is_branch
 returns-then-is_branch c = (search rules, λ A k base before h. of_none A (λ σ. leaf_candidate (algebra_of A) σ ∷ []) (in-set _ _ c.is_branch.ensures c.if-is_branch.true).1 h)
 
 pub returns-else-is_branch : goal.returns-else-is_branch
-returns-else-is_branch c =
-    (
-      c.try_leaf.ensures.0,
-      λ A k base before h.
-          of_one A (λ σ. leaf_candidate (algebra_of A) σ ∷ []) _ (not-in-set _ _ c.is_branch.ensures c.if-is_branch.false).1
-          (c.try_leaf.ensures.1 A k base before h),
-    )
+returns-else-is_branch c = (
+  c.try_leaf.ensures.0,
+  λ A k base before h.
+      of_one A (λ σ. leaf_candidate (algebra_of A) σ ∷ []) _ (not-in-set _ _ c.is_branch.ensures c.if-is_branch.false).1
+      (c.try_leaf.ensures.1 A k base before h),
+)

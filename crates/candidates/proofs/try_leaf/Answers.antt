@@ -1,6 +1,5 @@
 -- `candidates::try_leaf` meets its contract: one candidate.
 -- Assumes nothing.
-use borrow.Author.Rules.{rules}
 use Rattle.model.specs.Saturation.{leaf_candidate}
 use Rattle.algorithms.specs.Saturate.{algebra_of}
 use Rattle.candidates.proofs.Trying.{one-accepted, one_kept, leaf-row-is, leaf-class-is, leaf-accepted-is}

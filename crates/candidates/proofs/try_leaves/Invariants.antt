@@ -1,9 +1,7 @@
 -- `candidates::try_leaves` meets its contract. The invariant: the leaf symbols before were tried.
 -- Assumes nothing.
 -- one turn
-use borrow.Author.Rules.{rules}
-use Prim.Native.Nat.{◌+◌, ◌-◌, ◌≤◌}
-use mathlib.Core.Path.{◌≡◌, refl}
+use Prim.Native.Nat.{◌-◌, ◌≤◌}
 use mathlib.Core.List.{[], ◌∷◌, flat_map}
 use Rattle.model.specs.Saturation.{leaf_candidate}
 use Rattle.algorithms.specs.Automaton.{Automaton, numbered}
@@ -11,8 +9,6 @@ use Rattle.algorithms.specs.Saturate.{algebra_of}
 use Rattle.overloops.specs.Ready.{Ready}
 use Rattle.candidates.specs.Tries.{Tries}
 use Rattle.candidates.specs.declared.Tried.{Tried}
-use Rattle.classes.proofs.Symbols.{set_snoc, set_split}
-use Rattle.candidates.proofs.Trying.{no_rows, begun, turn, ended, few-kept}
 use Rattle.candidates.proofs.try_leaves.Given as goal
 
 abbrev pub invariant-loop-symbol : goal.invariant-loop-symbol

@@ -6,11 +6,10 @@ use Rattle.candidates.proofs.Skipping.{left-skipped}
 use Rattle.candidates.proofs.try_left.Goals as goal
 
 pub returns-then-is_double : goal.returns-then-is_double
-returns-then-is_double c =
-    (
-      search rules,
-      λ A k base kept h e m s t. left-skipped A _ _ _ _ (search rules) h (c.is_double.ensures c.if-is_double.true A _ _ m (search rules)) t,
-    )
+returns-then-is_double c = (
+  search rules,
+  λ A k base kept h e m s t. left-skipped A _ _ _ _ (search rules) h (c.is_double.ensures c.if-is_double.true A _ _ m (search rules)) t,
+)
 
 pub returns-else-is_double : goal.returns-else-is_double
 returns-else-is_double c =

@@ -1,21 +1,17 @@
 -- `candidates::try_lefts` meets its contract. The invariant: the left rows before were tried.
 -- Assumes nothing.
 -- one turn
-use borrow.Author.Rules.{rules}
-use Prim.Native.Nat.{ℕ, ◌+◌, ◌-◌, ◌≤◌, ◌<◌}
-use mathlib.Core.Path.{◌≡◌, refl}
-use mathlib.Core.List.{List, flat_map}
+use Prim.Native.Nat.{◌-◌, ◌≤◌}
+use mathlib.Core.Path.{◌≡◌}
+use mathlib.Core.List.{List}
 use lib.ListN.{length}
-use Rattle.model.specs.Lists.{◌∈◌, count_from}
+use Rattle.model.specs.Lists.{◌∈◌}
 use Rattle.model.specs.Saturation.{Candidate}
 use Rattle.algorithms.specs.Automaton.{Automaton, alphabet_of}
 use Rattle.algorithms.specs.Saturate.{algebra_of}
 use Rattle.overloops.specs.Ready.{Headed}
-use Rattle.candidates.specs.Tries.{over_lefts, Keeps, Settled, Skips, Tries}
+use Rattle.candidates.specs.Tries.{over_lefts, Keeps, Skips, Tries}
 use Rattle.candidates.specs.declared.Tried.{Tried}
-use Rattle.classes.proofs.Symbols.{count-snoc, count-split}
-use Rattle.candidates.proofs.Trying.{begun, turn, ended, few-kept}
-use Rattle.candidates.proofs.Skipping.{old-settled, lefts-settled}
 use Rattle.candidates.proofs.try_lefts.Given as goal
 
 abbrev pub invariant-loop-left : goal.invariant-loop-left

@@ -1,8 +1,7 @@
 -- `candidates::try_rights` meets its contract. The invariant: the right rows before were tried.
 -- Assumes nothing.
 -- one turn
-use borrow.Author.Rules.{rules}
-use Prim.Native.Nat.{ℕ, ◌+◌, ◌-◌, ◌≤◌, ◌<◌}
+use Prim.Native.Nat.{ℕ, ◌-◌, ◌≤◌, ◌<◌}
 use mathlib.Core.Path.{◌≡◌}
 use mathlib.Core.List.{List, [], ◌∷◌, flat_map}
 use lib.ListN.{length}
@@ -13,9 +12,6 @@ use Rattle.algorithms.specs.Saturate.{algebra_of}
 use Rattle.overloops.specs.Ready.{Headed}
 use Rattle.candidates.specs.Tries.{Keeps, Settled, Marks, Tries}
 use Rattle.candidates.specs.declared.Tried.{Tried}
-use Rattle.classes.proofs.Symbols.{range_none, range_snoc, range_split, map-flat}
-use Rattle.candidates.proofs.Trying.{begun, turn, ended, few-kept}
-use Rattle.candidates.proofs.Skipping.{rights-settled}
 use Rattle.candidates.proofs.try_rights.Given as goal
 
 abbrev pub invariant-loop-right : goal.invariant-loop-right

@@ -1,14 +1,10 @@
 -- `interchange::avoiding` meets its contract. The invariant: the symbols in the set are below the next, and avoid the states.
 -- Assumes nothing.
-use native.Mathlib.Omega.{arith}
 use mathlib.Core.Path.{◌≡◌}
-use Rattle.relation.proofs.BitLaws.{bit-zero}
 use Prim.Native.Nat.{ℕ, ◌+◌, ◌*◌, ◌-◌, ◌≤◌, ◌<◌}
 use lib.Bits.{bit_and}
 use lib.ListN.{get_or}
 use Rattle.relation.specs.Bit.{bit}
-use Rattle.interchange.proofs.Laws.{or-each}
-use borrow.Author.Rules.{rules}
 use Rattle.interchange.proofs.avoiding.Given as goal
 
 abbrev pub invariant-loop-symbol : goal.invariant-loop-symbol

@@ -1,8 +1,7 @@
 -- `interchange::differing` meets its contract. The invariant: the first p rows are the same but at the states of the set.
 -- Assumes nothing.
-use Prim.Native.Nat.{◌-◌, ◌≤◌}
 use native.Mathlib.Omega.{arith}
-use Rattle.interchange.proofs.Laws.{SameUpto, same_more, same-done}
+use Rattle.interchange.proofs.Laws.{same_more, same-done}
 use borrow.Author.Rules.{rules}
 use Rattle.interchange.proofs.differing.Goals as goal
 

@@ -3,12 +3,7 @@
 use Rattle.interchange.proofs.Laws.{or-each, found}
 use Rattle.relation.proofs.BitLaws.{bit-zero}
 use native.Mathlib.Omega.{arith}
-use Prim.Native.Nat.{ℕ, ◌-◌, ◌≤◌, ◌<◌}
 use mathlib.Core.Path.{◌≡◌}
-use Rattle.relation.specs.Bit.{bit}
-use Rattle.algorithms.specs.Automaton.{Automaton}
-use Rattle.representatives.specs.Stored.{class_in}
-use Rattle.interchange.specs.Interchange.{Interchangeable, Enters}
 use borrow.Author.Rules.{rules}
 use Rattle.interchange.proofs.doubled.Goals as goal
 

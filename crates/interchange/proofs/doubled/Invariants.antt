@@ -1,15 +1,11 @@
 -- `interchange::doubled` meets its contract. The invariant: at each symbol of the set, some row before is interchangeable with the row.
 -- Assumes nothing.
-use Rattle.interchange.proofs.Laws.{or-each, found}
-use Rattle.relation.proofs.BitLaws.{bit-zero}
-use native.Mathlib.Omega.{arith}
 use Prim.Native.Nat.{ℕ, ◌-◌, ◌≤◌, ◌<◌}
 use mathlib.Core.Path.{◌≡◌}
 use Rattle.relation.specs.Bit.{bit}
 use Rattle.algorithms.specs.Automaton.{Automaton}
 use Rattle.representatives.specs.Stored.{class_in}
 use Rattle.interchange.specs.Interchange.{Interchangeable, Enters}
-use borrow.Author.Rules.{rules}
 use Rattle.interchange.proofs.doubled.Given as goal
 
 abbrev pub invariant-loop-other : goal.invariant-loop-other

@@ -4,7 +4,6 @@ use Rattle.model.specs.declared.Place.{Place}
 use Rattle.model.specs.declared.Move.{Move}
 use Rattle.algorithms.specs.Overloops.{moves}
 use Rattle.interchange.proofs.Laws.{leads_any}
-use borrow.Author.Rules.{rules}
 use Rattle.interchange.proofs.entered_by.Goals as goal
 
 pub returns : goal.returns

@@ -1,12 +1,9 @@
 -- `interchange::fill_entered` meets its contract. The invariant: the symbols before are filled in.
 -- Assumes nothing.
 use native.Mathlib.Omega.{arith}
-use Prim.Native.Nat.{◌-◌, ◌≤◌}
 use mathlib.Core.Path.{◌≡◌}
-use lib.ListN.{length, length-set}
-use Rattle.algorithms.specs.Automaton.{Automaton}
-use Rattle.transitions.specs.Compiled.{Compiled}
-use Rattle.interchange.specs.Interchange.{EntersAt, Enters}
+use lib.ListN.{length-set}
+use Rattle.interchange.specs.Interchange.{EntersAt}
 use Rattle.interchange.proofs.Laws.{words-none, words_more}
 use borrow.Author.Rules.{rules}
 use Rattle.interchange.proofs.fill_entered.Goals as goal
@@ -20,10 +17,10 @@ bounds-entered-at-in-loop-symbol c = simp length-set (search rules)
 pub loop-symbol-preserved : goal.loop-symbol-preserved
 loop-symbol-preserved c =
     let l = c.loop-symbol in (
-  search rules,
-  simp length-set l.invariant.1,
-  λ A k. words_more (EntersAt A) l.symbol l.entered _ _ (omega arith) (l.invariant.2 A k) (c.entered_by.ensures A k) (c.entered_by-in-loop-symbol.ensures A k),
-)
+      search rules,
+      simp length-set l.invariant.1,
+      λ A k. words_more (EntersAt A) l.symbol l.entered _ _ (omega arith) (l.invariant.2 A k) (c.entered_by.ensures A k) (c.entered_by-in-loop-symbol.ensures A k),
+    )
 
 pub returns : goal.returns
 returns c =

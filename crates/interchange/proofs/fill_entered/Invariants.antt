@@ -1,14 +1,11 @@
 -- `interchange::fill_entered` meets its contract. The invariant: the symbols before are filled in.
 -- Assumes nothing.
-use native.Mathlib.Omega.{arith}
 use Prim.Native.Nat.{◌-◌, ◌≤◌}
 use mathlib.Core.Path.{◌≡◌}
-use lib.ListN.{length, length-set}
+use lib.ListN.{length}
 use Rattle.algorithms.specs.Automaton.{Automaton}
 use Rattle.transitions.specs.Compiled.{Compiled}
-use Rattle.interchange.specs.Interchange.{EntersAt, Enters}
-use Rattle.interchange.proofs.Laws.{words-none, words_more}
-use borrow.Author.Rules.{rules}
+use Rattle.interchange.specs.Interchange.{Enters}
 use Rattle.interchange.proofs.fill_entered.Given as goal
 
 abbrev pub invariant-loop-symbol : goal.invariant-loop-symbol

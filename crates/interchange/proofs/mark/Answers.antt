@@ -1,13 +1,10 @@
 -- `interchange::mark` meets its contract. The invariant: the rows before are marked.
 -- Assumes nothing.
-use Prim.Native.Nat.{ℕ, ◌-◌, ◌≤◌, ◌<◌}
 use mathlib.Core.Path.{◌≡◌}
 use native.Mathlib.Omega.{arith}
-use lib.ListN.{length, length-set}
-use Rattle.algorithms.specs.Automaton.{Automaton}
-use Rattle.algorithms.specs.Saturate.{Parts}
+use lib.ListN.{length-set}
 use Rattle.representatives.specs.Stored.{class_in}
-use Rattle.interchange.specs.Interchange.{Enters, MarkedAt, Marked}
+use Rattle.interchange.specs.Interchange.{MarkedAt}
 use Rattle.interchange.proofs.Laws.{words_more, doubled-as}
 use borrow.Author.Rules.{rules}
 use Rattle.interchange.proofs.mark.Goals as goal

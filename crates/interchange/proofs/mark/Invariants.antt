@@ -2,14 +2,11 @@
 -- Assumes nothing.
 use Prim.Native.Nat.{ℕ, ◌-◌, ◌≤◌, ◌<◌}
 use mathlib.Core.Path.{◌≡◌}
-use native.Mathlib.Omega.{arith}
-use lib.ListN.{length, length-set}
+use lib.ListN.{length}
 use Rattle.algorithms.specs.Automaton.{Automaton}
 use Rattle.algorithms.specs.Saturate.{Parts}
 use Rattle.representatives.specs.Stored.{class_in}
-use Rattle.interchange.specs.Interchange.{Enters, MarkedAt, Marked}
-use Rattle.interchange.proofs.Laws.{words_more, doubled-as}
-use borrow.Author.Rules.{rules}
+use Rattle.interchange.specs.Interchange.{Enters, Marked}
 use Rattle.interchange.proofs.mark.Given as goal
 
 abbrev pub invariant-loop-row : goal.invariant-loop-row

@@ -1,9 +1,7 @@
 -- `interchange::targets` meets its contract. The invariant: the pairs of the first p rows lead into the set.
 -- Assumes nothing.
 use Prim.Native.Nat.{◌-◌, ◌≤◌}
-use native.Mathlib.Omega.{arith}
-use Rattle.interchange.proofs.Laws.{LeadUpto, lead-more, lead-done}
-use borrow.Author.Rules.{rules}
+use Rattle.interchange.proofs.Laws.{LeadUpto}
 use Rattle.interchange.proofs.targets.Given as goal
 
 abbrev pub invariant-loop-p : goal.invariant-loop-p

@@ -14,7 +14,6 @@ use Rattle.transitions.proofs.Laws.{loaded-read}
 use Rattle.overloops.specs.Ready.{Headed}
 use Rattle.overloops.proofs.Laws.{file-headed}
 use Rattle.logs.proofs.Telling.{both-refused, both_read}
-use borrow.Author.Rules.{rules}
 use Rattle.logs.proofs.count.Goals as goal
 
 pub count_file-requires : goal.count_file-requires
@@ -23,7 +22,7 @@ count_file-requires c =
     let h : Header = c.in-Read.header in
     let read : parsed w ≡ Parsed.Read h = sym c.load.ensures.0 ∙ c.in-Read.is in
     let headed : Headed (automaton_of h (content w)) h c.load.new.table = file-headed w h _ read (loaded-read _ h w _ _ c.in-Read.is c.load.ensures.1) in
-    let told = c in (file-limits (w) (h) (read), (automaton_of (h) (content (w)), headed))
+    (file-limits (w) (h) (read), (automaton_of (h) (content (w)), headed))
 
 pub returns-in-Refused : goal.returns-in-Refused
 returns-in-Refused c = both-refused _ _ _ _ _ (sym c.load.ensures.0 ∙ c.in-Refused.is)
@@ -34,4 +33,4 @@ returns-in-Read c =
     let h : Header = c.in-Read.header in
     let read : parsed w ≡ Parsed.Read h = sym c.load.ensures.0 ∙ c.in-Read.is in
     let headed : Headed (automaton_of h (content w)) h c.load.new.table = file-headed w h _ read (loaded-read _ h w _ _ c.in-Read.is c.load.ensures.1) in
-    let told = c in c.count_file.ensures _ (headed) ∙ sym (both_read (w) _ _ _ (h) (read))
+    c.count_file.ensures _ (headed) ∙ sym (both_read (w) _ _ _ (h) (read))

@@ -15,7 +15,6 @@ use Rattle.tree.proofs.Reading.{TreeRead, tree-read}
 use Rattle.membership.proofs.Laws.{front-is}
 use Rattle.watch.proofs.Telling.{held}
 use Rattle.logs.proofs.Telling.{file-refused, file-counted}
-use borrow.Author.Rules.{rules}
 use Rattle.logs.proofs.count_file.Goals as goal
 
 pub slice_bounds-nodes-end : goal.slice_bounds-nodes-end
@@ -50,7 +49,6 @@ count_nodes-requires c =
     let read_is : read_tree signature s ≡ ParsedTree.Nodes k = sym c.read_tree.ensures.0 ∙ c.in-Nodes.is in
     let read : TreeRead signature s k = tree-read signature s k read_is in
     let nodes_are : take k c.read_tree.new.nodes ≡ nodes_of k (content s) = front-is signature s k _ _ _ c.in-Nodes.is c.read_tree.ensures.1 read in
-    let told = c in
     let pre = c.requires in
     rw (nodes_are) (held _ _ _ pre.1.1 (s) (k) pre.0 (read))
 
@@ -67,6 +65,5 @@ returns-in-Nodes c =
     let read : TreeRead signature s k = tree-read signature s k read_is in
     let nodes_are : take k c.read_tree.new.nodes ≡ nodes_of k (content s) = front-is signature s k _ _ _ c.in-Nodes.is c.read_tree.ensures.1 read in
     λ A headed.
-    let told = c in
     file-counted A _ _ headed _ _ _ _ (read_is) _
     ((rw (nodes_are) at c.count_nodes.ensures) (held A _ _ headed (s) (k) c.requires.0 (read)))

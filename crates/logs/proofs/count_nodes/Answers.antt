@@ -3,7 +3,6 @@
 use mathlib.Core.Path.{sym, ◌∙◌}
 use Rattle.watch.proofs.Holding.{tree-stands}
 use Rattle.logs.proofs.Telling.{countable, tree-refused, tree-counted}
-use borrow.Author.Rules.{rules}
 use Rattle.logs.proofs.count_nodes.Goals as goal
 
 pub returns-in-Refused : goal.returns-in-Refused

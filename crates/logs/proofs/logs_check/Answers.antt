@@ -3,7 +3,6 @@
 use mathlib.Core.Path.{◌∙◌}
 use borrow.Author.Tests.{eq-eqb, ne_eqb}
 use Rattle.logs.specs.Checks.{logs_check}
-use borrow.Author.Rules.{rules}
 use Rattle.logs.proofs.logs_check.Goals as goal
 
 pub returns-then-first-ne0 : goal.returns-then-first-ne0

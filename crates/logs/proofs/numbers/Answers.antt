@@ -1,7 +1,6 @@
 -- `logs::numbers` meets its contract: case by case.
 -- Assumes nothing.
 use mathlib.Core.Path.{refl}
-use borrow.Author.Rules.{rules}
 use Rattle.logs.proofs.numbers.Goals as goal
 
 pub returns-in-Counted : goal.returns-in-Counted

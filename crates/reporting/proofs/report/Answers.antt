@@ -9,13 +9,8 @@ use lib.Seq.{length-take-le}
 use Rattle.reporting.specs.Trace.{Asked}
 use Rattle.reporting.proofs.report.Goals as goal
 
-pub slice_bounds-report_file-end : goal.slice_bounds-report_file-end
-slice_bounds-report_file-end c =
-    let k = c.read_part-n in
-    sym (length-take-le k.result k.new.1.0 (omega (arith, k.ensures.3)))
-
 pub returns : goal.returns
 returns c =
     let k = c.read_part-n in
-    let n : k.result ≡ length (take k.result k.new.1.0) = sym (length-take-le k.result k.new.1.0 (omega (arith, k.ensures.3))) in
-    (take k.result k.new.1.0, subst (λ (m : ℕ). Asked c.args.automaton 3073 m) n k.ensures.2, c.report_file.ensures)
+    let n : k.result ≡ length (take k.result k.new.buffer) = sym (length-take-le k.result k.new.buffer (omega (arith, k.ensures.0, k.ensures.3))) in
+    (take k.result k.new.buffer, subst (λ (m : ℕ). Asked c.args.automaton 3073 m) n k.ensures.2, c.report_file.ensures)

@@ -1,6 +1,5 @@
 -- `tree_writer::payload_byte` meets its contract.
 -- Assumes nothing.
-use borrow.Author.Rules.{rules}
 use mathlib.Core.Path.{◌≡◌, sym}
 use native.Mathlib.Omega.{arith}
 use Rattle.tree.specs.Payload.{payload_of}

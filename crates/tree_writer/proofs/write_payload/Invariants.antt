@@ -1,15 +1,10 @@
 -- `tree_writer::write_payload` meets its contract.
 -- Assumes nothing.
-use borrow.Author.Rules.{rules}
-use native.Mathlib.Omega.{arith}
-use Prim.Native.Nat.{◌+◌, ◌-◌, ◌<◌, ◌≤◌}
-use mathlib.Core.Path.{◌≡◌, refl, sym, ap}
+use Prim.Native.Nat.{◌-◌, ◌≤◌}
+use mathlib.Core.Path.{◌≡◌}
 use mathlib.Core.List.{◌++◌}
-use lib.ListN.{length, take, drop, length-set}
-use lib.Seq.{take_all}
-use Rattle.blocks.proofs.Laws.{copied_more}
+use lib.ListN.{length, take, drop}
 use Rattle.tree.specs.Payload.{payload_of}
-use Rattle.tree_writer.proofs.Reading.{payload-length}
 use Rattle.tree_writer.proofs.write_payload.Given as goal
 
 abbrev pub invariant-loop-i : goal.invariant-loop-i

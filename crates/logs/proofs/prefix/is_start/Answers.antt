@@ -1,7 +1,6 @@
 -- `logs::prefix::is_start` meets its contract: the node first.
 -- Assumes nothing.
 use borrow.Author.Tests.{eq-eqb, ne_eqb}
-use borrow.Author.Rules.{rules}
 use Rattle.logs.proofs.prefix.is_start.Goals as goal
 
 pub returns-then-entry-ne0 : goal.returns-then-entry-ne0

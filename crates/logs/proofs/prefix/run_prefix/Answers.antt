@@ -1,11 +1,7 @@
 -- `logs::prefix::run_prefix` meets its contract. The invariant: the first k entries are a run, and what is left of the log gives the count.
 -- Assumes nothing.
-use Prim.Native.Nat.{◌-◌}
 use native.Mathlib.Omega.{arith}
-use borrow.Author.Tests.{not-true, not-false}
-use Rattle.logs.specs.Counting.{entry_of, Countable}
-use Rattle.logs.proofs.Counting.{Counted, none-counted, not-begun, count-begins, step-asks, all-counted, count-ends, count-on}
-use borrow.Author.Rules.{rules}
+use Rattle.logs.proofs.Counting.{none-counted, not-begun, count-begins, step-asks, all-counted, count-ends, count-on}
 use Rattle.logs.proofs.prefix.run_prefix.Goals as goal
 
 pub returns-then-n-eq0 : goal.returns-then-n-eq0
