@@ -16,7 +16,7 @@ returns-then-not-part c =
     λ A k.
     let e = c.weigh_part-part.ensures in
     let judged = e.5 A k (begins A) in
-    let told = ended A _ _ _ _ judged.1 (omega (arith, e.0, e.1)) (c.if-not-part.true) in
+    let told = ended A _ _ _ _ judged.1 (omega (arith, e.0, e.1)) (not-true _ c.if-not-part.true) in
     (told.0, told.1, judged.2)
 
 pub returns-then-rest-eq0 : goal.returns-then-rest-eq0
@@ -24,7 +24,7 @@ returns-then-rest-eq0 c =
     λ A k.
     let e = c.weigh_part-part.ensures in
     let judged = e.5 A k (begins A) in
-    let told = nothing_left A _ _ _ _ judged.1 (omega (arith, e.0, e.1)) (c.if-not-part.false) (rw c.back-rest.ensures at c.if-rest-eq0.true) in
+    let told = nothing_left A _ _ _ _ judged.1 (omega (arith, e.0, e.1)) (not-false _ c.if-not-part.false) (rw c.back-rest.ensures at c.if-rest-eq0.true) in
     (told.0, told.1, judged.2)
 
 pub returns-then-answers-at-lt3 : goal.returns-then-answers-at-lt3
@@ -32,14 +32,14 @@ returns-then-answers-at-lt3 c =
     λ A k.
     let e = c.weigh_part-part.ensures in
     let judged = e.5 A k (begins A) in
-    let told = no_room A _ _ _ _ judged.1 (omega (arith, e.0, e.1)) (c.if-not-part.false) (omega (arith, e.0, e.1, c.if-answers-at-lt3.true)) in
+    let told = no_room A _ _ _ _ judged.1 (omega (arith, e.0, e.1)) (not-false _ c.if-not-part.false) (omega (arith, e.0, e.1, c.if-answers-at-lt3.true)) in
     (told.0, told.1, judged.2)
 
 pub returns : goal.returns
 returns c =
     λ A k.
     let e = c.weigh_part-part.ensures in
-    let on : c.weigh_part-part.result.more ≡ true = c.if-not-part.false in
+    let on : c.weigh_part-part.result.more ≡ true = (not-false _ c.if-not-part.false) in
     let judged = e.5 A k (begins A) in
     let one = c.judge_one.ensures.2 A k judged.0 in
     let rest = c.back-rest.ensures in
