@@ -17,7 +17,6 @@ use Rattle.overloops.proofs.Laws.{file-headed}
 use Rattle.answers.specs.All.{Outcome, judged_all, Each}
 use Rattle.answers.proofs.Laws.{all-refused, all_read}
 use Rattle.answers.proofs.Eachwise.{each}
-use borrow.Author.Rules.{rules}
 use Rattle.answers.proofs.judge_all.Goals as goal
 
 right : (w s lent g : List ℕ) (o : Outcome) → o ≡ judged_all w s lent g → Each w s o

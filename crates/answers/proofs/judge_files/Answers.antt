@@ -8,7 +8,6 @@ use lib.ListN.{length}
 use Rattle.batch.proofs.Tallying.{begins}
 use borrow.Author.Tests.{not-true, not-false}
 use native.Mathlib.Omega.{arith}
-use borrow.Author.Rules.{rules}
 use Rattle.answers.proofs.judge_files.Goals as goal
 
 pub returns-then-not-part : goal.returns-then-not-part

@@ -3,7 +3,6 @@
 use Rattle.tally.specs.declared.Tallied.{Tallied}
 use borrow.Author.Tests.{eq-eqb, ne_eqb}
 use mathlib.Core.Path.{refl, ap}
-use borrow.Author.Rules.{rules}
 use Rattle.batch.proofs.count_rest.Goals as goal
 
 pub returns-then-left-eq0 : goal.returns-then-left-eq0

@@ -1,6 +1,5 @@
 -- `batch::ends_batch` meets its contract: the definition's cases.
 -- Assumes nothing.
-use borrow.Author.Rules.{rules}
 use mathlib.Core.Path.{refl}
 use Rattle.batch.proofs.ends_batch.Goals as goal
 

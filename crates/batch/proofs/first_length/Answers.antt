@@ -1,6 +1,5 @@
 -- `batch::first_length` meets its contract: the first block tells it.
 -- Assumes nothing.
-use borrow.Author.Rules.{rules}
 use native.Mathlib.Omega.{arith}
 use Rattle.batch.proofs.Laws.{told-length}
 use Rattle.batch.proofs.first_length.Goals as goal

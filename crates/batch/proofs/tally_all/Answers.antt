@@ -1,18 +1,13 @@
 -- `batch::tally_all` meets its contract. The invariant: the tally so far, and what is left, come to the whole.
 -- Assumes nothing.
 -- the place after a part is within the bytes
-use Prim.Native.Nat.{◌+◌, ◌-◌, ◌≤◌}
+use Prim.Native.Nat.{◌+◌, ◌≤◌}
 use native.Mathlib.Omega.{arith}
-use mathlib.Core.Path.{◌≡◌, refl, sym, ap, ◌∙◌}
+use mathlib.Core.Path.{refl, sym, ap, ◌∙◌}
 use borrow.Author.Tests.{not-true, not-false}
-use lib.ListN.{length, drop, length-drop}
+use lib.ListN.{length, length-drop}
 use lib.Seq.{length-take-le}
-use Rattle.algorithms.specs.Automaton.{Automaton}
-use Rattle.overloops.specs.Ready.{Headed}
-use Rattle.class_tables.specs.Cache.{CachedIn}
-use Rattle.batch.specs.Batch.{batch_of}
 use Rattle.batch.proofs.Tallying.{begins, tally-ends, tally-goes-on, tally-rest}
-use borrow.Author.Rules.{rules}
 use Rattle.batch.proofs.tally_all.Goals as goal
 
 pub loop-header-init : goal.loop-header-init
@@ -33,7 +28,7 @@ slice_bounds-count_all-end c = sym (length-take-le _ _ c.judge_part-part.ensures
 pub overflow_add-at : goal.overflow_add-at
 overflow_add-at c =
     let within : c.loop-header.at + c.judge_part-part.result.bytes ≤ length c.args.bytes.now = let e = c.judge_part-part.ensures in
-        omega (arith, e.3, ap length c.back.ensures, length-drop c.loop-header.at c.args.bytes.now, c.loop-header.invariant.0) in
+    omega (arith, e.3, ap length c.back.ensures, length-drop c.loop-header.at c.args.bytes.now, c.loop-header.invariant.0) in
     omega (arith, within, c.well_formed)
 
 pub returns-then-not-part : goal.returns-then-not-part
@@ -46,7 +41,7 @@ returns-then-not-part c =
 pub overflow_sub-bytes : goal.overflow_sub-bytes
 overflow_sub-bytes c =
     let within : c.loop-header.at + c.judge_part-part.result.bytes ≤ length c.args.bytes.now = let e = c.judge_part-part.ensures in
-        omega (arith, e.3, ap length c.back.ensures, length-drop c.loop-header.at c.args.bytes.now, c.loop-header.invariant.0) in
+    omega (arith, e.3, ap length c.back.ensures, length-drop c.loop-header.at c.args.bytes.now, c.loop-header.invariant.0) in
     within
 
 pub returns-then-part-lt128 : goal.returns-then-part-lt128
@@ -60,18 +55,18 @@ returns-then-part-lt128 c =
 pub loop-header-smaller : goal.loop-header-smaller
 loop-header-smaller c =
     let within : c.loop-header.at + c.judge_part-part.result.bytes ≤ length c.args.bytes.now = let e = c.judge_part-part.ensures in
-        omega (arith, e.3, ap length c.back.ensures, length-drop c.loop-header.at c.args.bytes.now, c.loop-header.invariant.0) in
+    omega (arith, e.3, ap length c.back.ensures, length-drop c.loop-header.at c.args.bytes.now, c.loop-header.invariant.0) in
     let e = c.judge_part-part.ensures in omega (arith, e.2, c.if-part-lt128.false, within)
 
 pub loop-header-preserved : goal.loop-header-preserved
 loop-header-preserved c =
     let within : c.loop-header.at + c.judge_part-part.result.bytes ≤ length c.args.bytes.now = let e = c.judge_part-part.ensures in
-        omega (arith, e.3, ap length c.back.ensures, length-drop c.loop-header.at c.args.bytes.now, c.loop-header.invariant.0) in
+    omega (arith, e.3, ap length c.back.ensures, length-drop c.loop-header.at c.args.bytes.now, c.loop-header.invariant.0) in
     let e = c.judge_part-part.ensures in (
-  within,
-  e.1 ∙ c.loop-header.invariant.1,
-  λ A k.
-      let v = c.loop-header.invariant.2 A k in
-      let told = e.5 A k v.0 in
-      (told.0, tally-goes-on A _ _ _ c.args.bytes.now _ _ _ c.loop-header.at _ v.1 c.back.ensures told.1 c.count_all-tally.ensures (not-false _ c.if-not-part.false)),
-)
+      within,
+      e.1 ∙ c.loop-header.invariant.1,
+      λ A k.
+          let v = c.loop-header.invariant.2 A k in
+          let told = e.5 A k v.0 in
+          (told.0, tally-goes-on A _ _ _ c.args.bytes.now _ _ _ c.loop-header.at _ v.1 c.back.ensures told.1 c.count_all-tally.ensures (not-false _ c.if-not-part.false)),
+    )

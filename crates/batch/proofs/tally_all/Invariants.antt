@@ -1,18 +1,13 @@
 -- `batch::tally_all` meets its contract. The invariant: the tally so far, and what is left, come to the whole.
 -- Assumes nothing.
 -- the place after a part is within the bytes
-use Prim.Native.Nat.{◌+◌, ◌-◌, ◌≤◌}
-use native.Mathlib.Omega.{arith}
-use mathlib.Core.Path.{◌≡◌, refl, sym, ap, ◌∙◌}
-use borrow.Author.Tests.{not-true, not-false}
-use lib.ListN.{length, drop, length-drop}
-use lib.Seq.{length-take-le}
+use Prim.Native.Nat.{◌-◌, ◌≤◌}
+use mathlib.Core.Path.{◌≡◌}
+use lib.ListN.{length, drop}
 use Rattle.algorithms.specs.Automaton.{Automaton}
 use Rattle.overloops.specs.Ready.{Headed}
 use Rattle.class_tables.specs.Cache.{CachedIn}
 use Rattle.batch.specs.Batch.{batch_of}
-use Rattle.batch.proofs.Tallying.{begins, tally-ends, tally-goes-on, tally-rest}
-use borrow.Author.Rules.{rules}
 use Rattle.batch.proofs.tally_all.Given as goal
 
 abbrev pub invariant-loop-header : goal.invariant-loop-header

@@ -2,7 +2,6 @@
 -- Assumes nothing.
 -- what is equal to the definition's answer meets demand 2
 -- the automaton's file reads
-use borrow.Author.Rules.{rules}
 use Prim.Native.Nat.{ℕ}
 use mathlib.Core.Path.{◌≡◌, sym, ◌∙◌}
 use mathlib.Core.List.{List}

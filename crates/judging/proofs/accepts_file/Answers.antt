@@ -1,6 +1,5 @@
 -- `judging::accepts_file` meets its contract.
 -- Assumes nothing.
-use borrow.Author.Rules.{rules}
 use Rattle.judging.proofs.accepts_file.Goals as goal
 
 pub returns : goal.returns

@@ -1,6 +1,5 @@
 -- `judging::answer_of` meets its contract.
 -- Assumes nothing.
-use borrow.Author.Rules.{rules}
 use Rattle.judging.proofs.answer_of.Goals as goal
 
 pub returns-in-Accepted : goal.returns-in-Accepted

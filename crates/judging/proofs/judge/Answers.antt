@@ -3,7 +3,6 @@
 -- Assumes nothing.
 -- what is equal to the definition's answer meets demand 2, and has the sum
 -- the automaton's file reads
-use borrow.Author.Rules.{rules}
 use Prim.Native.Nat.{ℕ}
 use mathlib.Core.Path.{◌≡◌, sym, ◌∙◌}
 use mathlib.Core.List.{List}
@@ -55,6 +54,6 @@ returns-in-Read c =
     let read : parsed w ≡ Parsed.Read h = sym c.load.ensures.0 ∙ c.in-Read.is in
     let headed : Headed (automaton_of h (content w)) h c.load.new.table = file-headed w h _ read (loaded-read _ h w _ _ c.in-Read.is c.load.ensures.1) in
     let judged-is : c.judge_file.result ≡ judged_with c.args.automaton.now c.args.tree.now = let told = c in
-        let both = c.judge_file.ensures _ (headed) in
-        rw (read) (with-sum both.0 both.1) in
+    let both = c.judge_file.ensures _ (headed) in
+    rw (read) (with-sum both.0 both.1) in
     record { equals = judged-is; right = right _ _ _ judged-is; grown = grown _ _ _ judged-is }

@@ -1,7 +1,6 @@
 -- `judging::judge_nodes` meets its contract: what the cache tells is so, and where it tells nothing the search does.
 -- Assumes nothing.
 use Rattle.class_tables.proofs.Empty.{kept-cache}
-use borrow.Author.Rules.{rules}
 use Rattle.judging.proofs.judge_nodes.Goals as goal
 
 pub returns-then-not-begin : goal.returns-then-not-begin

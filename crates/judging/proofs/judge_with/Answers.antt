@@ -1,6 +1,5 @@
 -- `judging::judge_with` meets its contract.
 -- Assumes nothing.
-use borrow.Author.Rules.{rules}
 use Rattle.judging.proofs.judge_with.Goals as goal
 
 pub returns : goal.returns

@@ -1,6 +1,5 @@
 -- `judging::judged_of` meets its contract.
 -- Assumes nothing.
-use borrow.Author.Rules.{rules}
 use Rattle.judging.proofs.judged_of.Goals as goal
 
 pub returns-in-Accepted : goal.returns-in-Accepted

@@ -1,7 +1,6 @@
 -- `judging::without_cache` meets its contract.
 -- Assumes nothing.
 use Rattle.refusal.proofs.Passed.{clash}
-use borrow.Author.Rules.{rules}
 use Rattle.judging.proofs.without_cache.Goals as goal
 
 pub returns : goal.returns

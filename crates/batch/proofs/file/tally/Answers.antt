@@ -14,7 +14,6 @@ use Rattle.transitions.proofs.Laws.{loaded-read}
 use Rattle.overloops.specs.Ready.{Headed}
 use Rattle.overloops.proofs.Laws.{file-headed}
 use Rattle.batch.proofs.Laws.{tallied-refused, tallied-read}
-use borrow.Author.Rules.{rules}
 use Rattle.batch.proofs.file.tally.Goals as goal
 
 pub tally_all-tally-requires : goal.tally_all-tally-requires

@@ -10,7 +10,6 @@ use Rattle.batch.specs.Batch.{ends_batch}
 use Rattle.batch.specs.Answers.{answer_numbers}
 use Rattle.batch.proofs.Parts.{numbers-each}
 use Rattle.batch.proofs.Sums.{stored-if}
-use borrow.Author.Rules.{rules}
 use Rattle.batch.proofs.part.judge_one.Goals as goal
 
 pub returns : goal.returns

@@ -1,6 +1,5 @@
 -- `batch::part::judge_part` meets its contract.
 -- Assumes nothing.
-use borrow.Author.Rules.{rules}
 use Rattle.batch.proofs.part.judge_part.Goals as goal
 
 pub returns : goal.returns

@@ -1,7 +1,6 @@
 -- `batch::part::numbers_of` meets its contract.
 -- Assumes nothing.
 use mathlib.Core.Path.{refl}
-use borrow.Author.Rules.{rules}
 use Rattle.batch.proofs.part.numbers_of.Goals as goal
 
 pub returns-in-Refused : goal.returns-in-Refused

@@ -3,7 +3,6 @@
 use native.Mathlib.Omega.{arith}
 use mathlib.Core.Path.{sym}
 use lib.Seq.{set_out}
-use borrow.Author.Rules.{rules}
 use Rattle.batch.proofs.part.put_growth.Goals as goal
 
 pub returns-else-at-growths : goal.returns-else-at-growths

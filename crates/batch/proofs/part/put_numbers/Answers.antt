@@ -3,7 +3,6 @@
 use Rattle.batch.proofs.Parts.{put_three}
 use lib.ListN.{length-set}
 use native.Mathlib.Omega.{arith}
-use borrow.Author.Rules.{rules}
 use Rattle.batch.proofs.part.put_numbers.Goals as goal
 
 pub bounds-answers-at-2 : goal.bounds-answers-at-2

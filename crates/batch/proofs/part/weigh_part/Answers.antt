@@ -7,15 +7,10 @@ use mathlib.Core.Path.{◌≡◌, refl, ◌∙◌}
 use mathlib.Core.List.{List}
 use mathlib.Core.Logic.{inl, inr}
 use lib.ListN.{length, take, drop, length-drop}
-use Rattle.algorithms.specs.Automaton.{Automaton}
 use Rattle.refusal.proofs.Passed.{clash}
-use Rattle.overloops.specs.Ready.{Headed}
-use Rattle.class_tables.specs.Cache.{CachedIn}
-use Rattle.batch.specs.Answers.{after_files, growths_after, Part}
 use Rattle.batch.proofs.Parts.{begun, onward}
 use Rattle.batch.proofs.Sums.{after_more, nothing-after, no-sums, sum_more}
 use Rattle.batch.proofs.Pieces.{most_bytes}
-use borrow.Author.Rules.{rules}
 use Rattle.batch.proofs.part.weigh_part.Goals as goal
 
 part-is : (at n : ℕ) → at + n - at ≡ n

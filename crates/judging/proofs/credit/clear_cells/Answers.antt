@@ -1,9 +1,8 @@
 -- `judging::credit::clear_cells` meets its contract.
 -- Assumes nothing.
 use Rattle.judging.proofs.Laws.{cleared_more}
-use lib.ListN.{length, get_or, length-set}
-use mathlib.Core.Path.{◌≡◌, refl, ◌∙◌}
-use Prim.Native.Nat.{ℕ, ◌-◌, ◌≤◌, ◌<◌}
+use lib.ListN.{length-set}
+use mathlib.Core.Path.{refl, ◌∙◌}
 use native.Mathlib.Omega.{arith}
 use borrow.Author.Rules.{rules}
 use Rattle.judging.proofs.credit.clear_cells.Goals as goal

@@ -1,11 +1,8 @@
 -- `judging::credit::clear_cells` meets its contract.
 -- Assumes nothing.
-use Rattle.judging.proofs.Laws.{cleared_more}
-use lib.ListN.{length, get_or, length-set}
-use mathlib.Core.Path.{◌≡◌, refl, ◌∙◌}
+use lib.ListN.{length, get_or}
+use mathlib.Core.Path.{◌≡◌}
 use Prim.Native.Nat.{ℕ, ◌-◌, ◌≤◌, ◌<◌}
-use native.Mathlib.Omega.{arith}
-use borrow.Author.Rules.{rules}
 use Rattle.judging.proofs.credit.clear_cells.Given as goal
 
 abbrev pub invariant-loop-i : goal.invariant-loop-i

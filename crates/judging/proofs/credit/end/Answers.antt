@@ -2,7 +2,6 @@
 -- Assumes nothing.
 use Rattle.judging.proofs.Laws.{kept_set}
 use native.Mathlib.Omega.{arith}
-use borrow.Author.Rules.{rules}
 use Rattle.judging.proofs.credit.end.Goals as goal
 
 pub returns : goal.returns

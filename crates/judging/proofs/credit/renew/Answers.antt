@@ -1,7 +1,6 @@
 -- `judging::credit::renew` meets its contract.
 -- Assumes nothing.
 use Rattle.judging.proofs.Laws.{renewed}
-use borrow.Author.Rules.{rules}
 use Rattle.judging.proofs.credit.renew.Goals as goal
 
 pub returns : goal.returns
