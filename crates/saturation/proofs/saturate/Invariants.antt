@@ -2,20 +2,12 @@
 -- Assumes nothing.
 -- the rows as the round begins are marked
 -- what the round tried, whatever the rows are
-use borrow.Author.Rules.{rules}
-use Prim.Native.Nat.{ℕ, ◌-◌, ◌≤◌, ◌<◌}
+use Prim.Native.Nat.{◌-◌, ◌≤◌}
 use mathlib.Core.Path.{◌≡◌}
-use mathlib.Core.List.{List, []}
 use lib.ListN.{length}
-use Rattle.model.specs.Saturation.{Candidate}
-use Rattle.model.specs.Fresh.{fresh_candidates}
-use Rattle.algorithms.specs.Automaton.{Automaton, alphabet_of}
-use Rattle.algorithms.specs.Saturate.{Parts, algebra_of}
+use Rattle.algorithms.specs.Automaton.{Automaton}
 use Rattle.overloops.specs.Ready.{Ready}
-use Rattle.representatives.specs.Stored.{class_in}
-use Rattle.interchange.specs.Interchange.{Marked}
-use Rattle.candidates.specs.Tries.{Keeps, Skips, Tries}
-use Rattle.saturation.proofs.Ending.{Begins, begins, ends_found, ends_open, ends-empty, goes_on}
+use Rattle.saturation.proofs.Ending.{Begins}
 use Rattle.saturation.proofs.saturate.Given as goal
 
 abbrev pub invariant-loop-origin : goal.invariant-loop-origin

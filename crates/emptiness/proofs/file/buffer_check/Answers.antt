@@ -1,6 +1,5 @@
 -- `emptiness::file::buffer_check` meets its contract: the test picks the case.
 -- Assumes nothing.
-use borrow.Author.Rules.{rules}
 use Rattle.refusal.proofs.Cases.{checks}
 use Rattle.emptiness.specs.Surveyed.{buffer_check}
 use Rattle.emptiness.proofs.file.buffer_check.Goals as goal

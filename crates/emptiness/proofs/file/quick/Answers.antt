@@ -2,7 +2,6 @@
 -- definition.
 -- Assumes nothing.
 -- what is equal to the definition's answer meets demand 3
-use borrow.Author.Rules.{rules}
 use Prim.Native.Nat.{ℕ}
 use mathlib.Core.Path.{◌≡◌, sym, ◌∙◌}
 use mathlib.Core.List.{List}
@@ -13,8 +12,8 @@ use Rattle.emptiness.proofs.Proved.{checked-right}
 use Rattle.emptiness.specs.declared.Quick.{Quick}
 use Rattle.emptiness.proofs.file.quick.Goals as goal
 
-both : (w : List ℕ) (r : Quick) → r ≡ checked w → (r ≡ checked w) × Demand3Quick w r
-both w r e = (e, rw e (checked-right w))
+meets : (w : List ℕ) (r : Quick) → r ≡ checked w → Demand3Quick w r
+meets w r e = rw e (checked-right w)
 
 pub quick_prepared-requires : goal.quick_prepared-requires
 quick_prepared-requires c =
@@ -23,11 +22,14 @@ quick_prepared-requires c =
 
 pub returns-in-Refused : goal.returns-in-Refused
 unfolding checked
-returns-in-Refused c = both _ _ (rw (sym c.prepare.ensures.0 ∙ c.in-Refused.is))
+returns-in-Refused c =
+    let e : Quick.Refused c.in-Refused.refusal ≡ checked c.args.file.now = rw (sym c.prepare.ensures.0 ∙ c.in-Refused.is) in
+    record { equals = e; right = meets c.args.file.now _ e }
 
 pub returns-in-Read : goal.returns-in-Read
 unfolding checked
 returns-in-Read c =
     let told = c in
     let ready = prepared-ready _ _ _ _ _ _ _ told.in-Read.is told.prepare.ensures.1 in
-    both _ _ (rw (sym told.prepare.ensures.0 ∙ told.in-Read.is) (c.quick_prepared.ensures _ ready.1))
+    let e : c.quick_prepared.result ≡ checked c.args.file.now = rw (sym told.prepare.ensures.0 ∙ told.in-Read.is) (c.quick_prepared.ensures _ ready.1) in
+    record { equals = e; right = meets c.args.file.now _ e }

@@ -1,6 +1,5 @@
 -- `emptiness::file::quick_prepared` meets its contract: by the automaton's least sets.
 -- Assumes nothing.
-use borrow.Author.Rules.{rules}
 use mathlib.Core.Path.{sym, ap, ◌∙◌}
 use Rattle.emptiness.specs.Checked.{clear_or}
 use Rattle.emptiness.proofs.file.quick_prepared.Goals as goal

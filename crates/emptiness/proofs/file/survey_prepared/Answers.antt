@@ -1,6 +1,5 @@
 -- `emptiness::file::survey_prepared` meets its contract: a short buffer is told, and any other is answered by the automaton's saturation.
 -- Assumes nothing.
-use borrow.Author.Rules.{rules}
 use mathlib.Core.Path.{sym, ◌∙◌}
 use Rattle.emptiness.proofs.Planning.{long-enough, survey-short, survey-long}
 use Rattle.emptiness.proofs.file.survey_prepared.Goals as goal
@@ -9,7 +8,7 @@ pub returns-in-Refused : goal.returns-in-Refused
 returns-in-Refused c A k = survey-short A _ _ (sym c.buffer_check.ensures ∙ c.in-Refused.is)
 
 pub survey_read-requires : goal.survey_read-requires
-survey_read-requires c = (c.before.before.before.before.before.before.requires, long-enough _ (sym c.buffer_check.ensures ∙ c.in_default.is))
+survey_read-requires c = (c.requires, long-enough _ (sym c.buffer_check.ensures ∙ c.in_default.is))
 
 pub returns : goal.returns
 returns c A k =

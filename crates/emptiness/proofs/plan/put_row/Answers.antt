@@ -1,12 +1,12 @@
 -- `emptiness::plan::put_row` meets its contract. The invariant: the first k bytes of the row are pasted into the buffer.
 -- Assumes nothing.
 use borrow.Author.Rules.{rules}
-use Prim.Native.Nat.{ℕ, ◌+◌, ◌*◌, ◌-◌, ◌≤◌}
+use Prim.Native.Nat.{ℕ, ◌+◌, ◌*◌}
 use mathlib.Core.Path.{◌≡◌}
 use mathlib.Core.List.{List, [], ◌∷◌, append_assoc}
 use native.Mathlib.Numerals.{add-one}
-use lib.ListN.{length, take, drop, length-set}
-use lib.Seq.{paste, paste-zero, paste-suc}
+use lib.ListN.{take, drop, length-set}
+use lib.Seq.{paste-zero, paste-suc}
 use Rattle.representatives.specs.declared.Origin.{Origin}
 use Rattle.emptiness.proofs.plan.put_row.Goals as goal
 

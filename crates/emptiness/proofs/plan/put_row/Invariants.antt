@@ -1,13 +1,9 @@
 -- `emptiness::plan::put_row` meets its contract. The invariant: the first k bytes of the row are pasted into the buffer.
 -- Assumes nothing.
-use borrow.Author.Rules.{rules}
-use Prim.Native.Nat.{ℕ, ◌+◌, ◌*◌, ◌-◌, ◌≤◌}
+use Prim.Native.Nat.{◌-◌, ◌≤◌}
 use mathlib.Core.Path.{◌≡◌}
-use mathlib.Core.List.{List, [], ◌∷◌, append_assoc}
-use native.Mathlib.Numerals.{add-one}
-use lib.ListN.{length, take, drop, length-set}
-use lib.Seq.{paste, paste-zero, paste-suc}
-use Rattle.representatives.specs.declared.Origin.{Origin}
+use lib.ListN.{length}
+use lib.Seq.{paste}
 use Rattle.emptiness.proofs.plan.put_row.Given as goal
 
 abbrev pub invariant-loop-k : goal.invariant-loop-k

@@ -1,13 +1,9 @@
 -- `emptiness::plan::write_plan` meets its contract.
 -- Assumes nothing.
 use borrow.Author.Rules.{rules}
-use Prim.Native.Nat.{◌*◌, ◌-◌, ◌≤◌}
 use mathlib.Core.Path.{◌≡◌, refl}
-use mathlib.Core.List.{◌++◌}
-use lib.ListN.{length, drop}
 use Rattle.model.specs.Lists.{count_from}
 use Rattle.representatives.specs.Stored.{origin_of, origins_in}
-use Rattle.emptiness.specs.Surveyed.{plan_bytes}
 use Rattle.emptiness.proofs.Planning.{plan-more, origins-length, plan-step}
 use Rattle.emptiness.proofs.plan.write_plan.Goals as goal
 
