@@ -1,9 +1,5 @@
-
-use borrow.Author.Rules.{rules}
-use Prim.Native.Nat.{◌-◌, ◌≤◌}
-use lib.ListN.{length}
-use Rattle.witness_cases.proofs.mix.Reads as reads
-use Rattle.witness_cases.proofs.mixed.Reads as mixed-reads
+-- The measure: the bytes that are left.
+use Rattle.std.proofs.Common.{◌-◌, ◌≤◌, length}
 use Rattle.witness_cases.proofs.mix.Given as goal
 
 abbrev pub invariant-loop-i : goal.invariant-loop-i
