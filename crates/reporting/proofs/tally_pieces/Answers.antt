@@ -103,6 +103,6 @@ loop-header-preserved c =
       omega (arith, moved.0, r.ensures.0),
       leb-false 1000000 (total c.count_all-tally.result) (sym c.is_full.ensures ∙ c.if-is_full.false),
       λ A k h.
-      let v = l.invariant.4 A k h in
-      ((j.5 A k v.0).0, onward _ A _ _ _ _ _ _ _ _ (read-on _ A _ _ _ _ _ size r.ensures.1 r.ensures.0 r.ensures.2 v.1) (j.5 A k v.0).1 c.count_all-tally.ensures _ on moved.2),
+          let v = l.invariant.4 A k h in
+          ((j.5 A k v.0).0, onward _ A _ _ _ _ _ _ _ _ (read-on _ A _ _ _ _ _ size r.ensures.1 r.ensures.0 r.ensures.2 v.1) (j.5 A k v.0).1 c.count_all-tally.ensures _ on moved.2),
     )

@@ -8,7 +8,7 @@ use Rattle.engine.proofs.numbers.engine_accepts.Goals as goal
 pub returns : goal.returns
 returns c =
     let answer = c.accepts in
-    let e = answer.ensures.0 in (
-      (c.put_answer.ensures.0 ∙ ap answer_number e, c.put_answer.ensures.1 ∙ ap answer_told e),
-      (answer.result, c.put_answer.ensures.0, c.put_answer.ensures.1, answer.ensures.1),
-    )
+    let e = answer.ensures.equals in record {
+      equals = (c.put_answer.ensures.0 ∙ ap answer_number e, c.put_answer.ensures.1 ∙ ap answer_told e);
+      right = (answer.result, c.put_answer.ensures.0, c.put_answer.ensures.1, answer.ensures.right);
+    }

@@ -22,12 +22,12 @@ returns c =
     let put = c.put_compared.ensures in
     let answer = c.count-compared in
     let e = answer.ensures in
-    let part = c.common-part.ensures.1.0 in
-    let counts = put.1 ∙ ap (λ (l : List ℕ). compared_counts answer.result (length l)) part in (
-      (
+    let part = c.common-part.ensures.equals in
+    let counts = put.1 ∙ ap (λ (l : List ℕ). compared_counts answer.result (length l)) part in record {
+      equals = (
         put.0 ∙ ap compared_number e,
         put.1 ∙ ap₂ (λ (x : Compared) (l : List ℕ). compared_counts x (length l)) e part,
         put.2 ∙ ap compared_told e,
-      ),
-      (answer.result, put.0, counts ∙ length-told answer.result _ _, put.2, answer-right _ _ _ _ answer.result e),
-    )
+      );
+      right = (answer.result, put.0, counts ∙ length-told answer.result _ _, put.2, answer-right _ _ _ _ answer.result e);
+    }

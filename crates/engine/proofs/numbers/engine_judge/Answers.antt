@@ -10,11 +10,11 @@ pub returns : goal.returns
 returns c =
     let answer = c.judge in
     let told = c.put_judged.ensures in
-    let e = answer.ensures.0 in (
-      (
+    let e = answer.ensures.equals in record {
+      equals = (
         told.0 ∙ ap (λ (j : Judged). answer_number j.answer) e,
         told.1 ∙ ap growth_numbers e,
         told.2 ∙ ap (λ (j : Judged). answer_told j.answer) e,
-      ),
-      (answer.result, told.0, told.1, told.2, answer.ensures.1.0, answer.ensures.1.1),
-    )
+      );
+      right = (answer.result, told.0, told.1, told.2, answer.ensures.right, answer.ensures.grown);
+    }

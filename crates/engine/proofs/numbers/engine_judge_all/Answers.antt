@@ -9,12 +9,12 @@ use Rattle.engine.proofs.numbers.engine_judge_all.Goals as goal
 pub returns : goal.returns
 returns c =
     let answer = c.judge_all in
-    let e = answer.ensures.0 in (
-      (
+    let e = answer.ensures.equals in record {
+      equals = (
         c.put_judgement.ensures.0 ∙ ap (λ (o : Outcome). judgement_number o.judgement) e,
         c.put_judgement.ensures.1 ∙ ap (λ (o : Outcome). judgement_told o.judgement) e,
         ap (λ (o : Outcome). o.numbers) e,
         ap (λ (o : Outcome). o.growths) e,
-      ),
-      (answer.result, c.put_judgement.ensures.0, c.put_judgement.ensures.1, answer.ensures.1),
-    )
+      );
+      right = (answer.result, c.put_judgement.ensures.0, c.put_judgement.ensures.1, answer.ensures.right);
+    }

@@ -8,7 +8,7 @@ use Rattle.engine.proofs.numbers.engine_quick.Goals as goal
 pub returns : goal.returns
 returns c =
     let answer = c.quick in
-    let e = answer.ensures.0 in (
-      (c.put_quick.ensures.0 ∙ ap quick_number e, c.put_quick.ensures.1 ∙ ap quick_told e),
-      (answer.result, c.put_quick.ensures.0, c.put_quick.ensures.1, answer.ensures.1),
-    )
+    let e = answer.ensures.equals in record {
+      equals = (c.put_quick.ensures.0 ∙ ap quick_number e, c.put_quick.ensures.1 ∙ ap quick_told e);
+      right = (answer.result, c.put_quick.ensures.0, c.put_quick.ensures.1, answer.ensures.right);
+    }

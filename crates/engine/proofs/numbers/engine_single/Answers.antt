@@ -8,7 +8,7 @@ use Rattle.engine.proofs.numbers.engine_single.Goals as goal
 pub returns : goal.returns
 returns c =
     let answer = c.single in
-    let e = answer.ensures.0 in (
-      (c.put_single.ensures.0 ∙ ap single_number e, c.put_single.ensures.1 ∙ ap single_told e),
-      (answer.result, c.put_single.ensures.0, c.put_single.ensures.1, answer.ensures.1),
-    )
+    let e = answer.ensures.equals in record {
+      equals = (c.put_single.ensures.0 ∙ ap single_number e, c.put_single.ensures.1 ∙ ap single_told e);
+      right = (answer.result, c.put_single.ensures.0, c.put_single.ensures.1, answer.ensures.right);
+    }

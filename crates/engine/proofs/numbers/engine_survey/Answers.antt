@@ -9,11 +9,11 @@ use Rattle.engine.proofs.numbers.engine_survey.Goals as goal
 pub returns : goal.returns
 returns c =
     let answer = c.survey in
-    let e = answer.ensures.0 in (
-      (
+    let e = answer.ensures.equals in record {
+      equals = (
         c.put_survey.ensures.0 ∙ ap (λ (o : Answered). survey_number o.answer) e,
         c.put_survey.ensures.1 ∙ ap (λ (o : Answered). survey_told o.answer) e,
         ap (λ (o : Answered). o.buffer) e,
-      ),
-      (answer.result, c.put_survey.ensures.0, c.put_survey.ensures.1, answer.ensures.1),
-    )
+      );
+      right = (answer.result, c.put_survey.ensures.0, c.put_survey.ensures.1, answer.ensures.right);
+    }

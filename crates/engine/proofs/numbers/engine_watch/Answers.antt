@@ -9,11 +9,11 @@ use Rattle.engine.proofs.numbers.engine_watch.Goals as goal
 pub returns : goal.returns
 returns c =
     let answer = c.watch in
-    let e = answer.ensures.0 in (
-      (
+    let e = answer.ensures.equals in record {
+      equals = (
         c.put_watched.ensures.0 ∙ ap (λ (o : Outcome). watch_number o.answer) e,
         c.put_watched.ensures.1 ∙ ap (λ (o : Outcome). watch_told o.answer) e,
         ap (λ (o : Outcome). o.log) e,
-      ),
-      (answer.result, c.put_watched.ensures.0, c.put_watched.ensures.1, answer.ensures.1),
-    )
+      );
+      right = (answer.result, c.put_watched.ensures.0, c.put_watched.ensures.1, answer.ensures.right);
+    }

@@ -9,11 +9,11 @@ use Rattle.engine.proofs.numbers.engine_witness.Goals as goal
 pub returns : goal.returns
 returns c =
     let answer = c.witness in
-    let e = answer.ensures.0 in (
-      (
-        c.Put-written.ensures.0 ∙ ap (λ (o : Filled). written_number o.answer) e,
-        c.Put-written.ensures.1 ∙ ap (λ (o : Filled). written_told o.answer) e,
+    let e = answer.ensures.equals in record {
+      equals = (
+        c.put_written.ensures.0 ∙ ap (λ (o : Filled). written_number o.answer) e,
+        c.put_written.ensures.1 ∙ ap (λ (o : Filled). written_told o.answer) e,
         ap (λ (o : Filled). o.out) e,
-      ),
-      (answer.result, c.Put-written.ensures.0, c.Put-written.ensures.1, answer.ensures.1),
-    )
+      );
+      right = (answer.result, c.put_written.ensures.0, c.put_written.ensures.1, answer.ensures.right);
+    }
