@@ -12,7 +12,7 @@ use Rattle.blocks.specs.FileOf.{blocks_needed}
 use Rattle.blocks.proofs.Written.{file-length}
 use Rattle.refusal.specs.Checks.{refused, refuse_if}
 use Rattle.refusal.specs.declared.Check.{Check}
-use Rattle.refusal.specs.declared.Check.TheVariants.{Passed, Refused}
+use Rattle.refusal.specs.declared.Check.TheVariants.{Passed}
 use Rattle.refusal.specs.declared.Fault.{Fault}
 use Rattle.refusal.specs.declared.Refusal.{Refusal}
 use Rattle.refusal.proofs.Passed.{clash, both-passed, if-passed}
@@ -27,7 +27,7 @@ use Rattle.automaton_writer.proofs.Bytes.{payload-length}
 use Rattle.transitions.specs.Transitions.{by_automaton}
 use Rattle.transitions.specs.Spread.{spread_rules, SameRules, SameCounts}
 use Rattle.algorithms.specs.Automaton.{Automaton}
-use Rattle.determinism.specs.Single.{single, single_if, single_of}
+use Rattle.determinism.specs.Single.{single_if, single_of}
 use Rattle.determinism.proofs.RepeatedRecords.{same-single, same_answer}
 use Rattle.membership.specs.Judged.{judged_by, judged}
 use Rattle.membership.specs.Grown.{growth_by, growth_judged}

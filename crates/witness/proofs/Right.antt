@@ -1,6 +1,6 @@
 -- Document 02's promises of W1 hold of what is written.
 -- Assumes nothing.
-use Prim.Native.Nat.{ℕ, ◌+◌, ◌*◌, ◌%◌, ◌<◌, ◌≤◌}
+use Prim.Native.Nat.{ℕ, ◌*◌, ◌%◌, ◌<◌, ◌≤◌}
 use native.Mathlib.Omega.{arith}
 use mathlib.Core.Path.{◌≡◌, refl, sym, ap, subst, ◌∙◌}
 use mathlib.Core.Bool.{Bool, true, false}
@@ -16,7 +16,7 @@ use Rattle.relation.specs.Sets.{member}
 use Rattle.model.specs.Trees.{Tree, size}
 use Rattle.model.specs.Counting.{Over}
 use Rattle.model.proofs.ListLaws.{nth-unique}
-use Rattle.model.specs.Saturation.{WitnessRow, BuildsAt, leaf-row, node-row, Builds, Found}
+use Rattle.model.specs.Saturation.{WitnessRow, BuildsAt, leaf-row, node-row, Builds}
 use Rattle.model.proofs.Witnesses.{builds-unique}
 use Rattle.model.specs.declared.Signature.{Signature}
 use Rattle.algorithms.specs.Automaton.{Automaton, Accepted, Proper, alphabet_of}
@@ -26,7 +26,7 @@ use Rattle.algorithms.proofs.Recognized.{recognizes}
 use Rattle.algorithms.proofs.Theorems.{demand-3, count-unique}
 use Rattle.refusal.specs.Checks.{refuse_if, ◌and_then◌}
 use Rattle.refusal.specs.declared.Fault.{Fault}
-use Rattle.refusal.specs.declared.Check.TheVariants.{Passed, Refused}
+use Rattle.refusal.specs.declared.Check.TheVariants.{Passed}
 use Rattle.refusal.specs.declared.Refusal.{Refusal}
 use Rattle.refusal.proofs.Passed.{clash, both-passed}
 use Rattle.automaton.specs.File.{parsed}

@@ -1,6 +1,5 @@
 -- `canonical::form_check` meets its contract.
 -- Assumes nothing.
-use borrow.Author.Rules.{rules}
 use mathlib.Core.Path.{sym, ◌∙◌}
 use native.Mathlib.Omega.{arith}
 use Rattle.canonical.proofs.OneForm.{of-many, of-few}

@@ -1,6 +1,5 @@
 -- `canonical::with_rules` meets its contract: the counts and the sets are the header's own.
 -- Assumes nothing.
-use borrow.Author.Rules.{rules}
 use mathlib.Core.Path.{refl}
 use Rattle.canonical.proofs.with_rules.Goals as goal
 

@@ -1,11 +1,5 @@
 -- `canonical::write` meets its contract: a file that reads is compiled and written from its table, and a refused one leaves the output.
 -- Assumes nothing.
--- what is equal to the definition's answer and bytes meets the promise
--- the rules in the table are those that remain, 1,536 at the most
--- the file reads
--- the part of the buffer that is lent on holds the joined contents
--- and the table the compiled transitions
-use borrow.Author.Rules.{rules}
 use Prim.Native.Nat.{ℕ, ◌*◌, ◌≤◌}
 use mathlib.Core.Path.{◌≡◌, refl, sym, ap, ◌∙◌}
 use mathlib.Core.List.{List}
@@ -27,9 +21,11 @@ use Rattle.canonical.proofs.Form.{remaining-few}
 use Rattle.canonical.proofs.OneForm.{refused-is, read_is, canonical-right}
 use Rattle.canonical.proofs.write.Goals as goal
 
-both : (s before : List ℕ) (o : Filled) → o ≡ canonical_of s before → (o ≡ canonical_of s before) × Promise s before o
-both s before o e = (e, rw e (canonical-right s before))
+-- what is equal to the definition's answer and bytes meets the promise
+promised : (s before : List ℕ) (o : Filled) → o ≡ canonical_of s before → Promise s before o
+promised s before o e = rw e (canonical-right s before)
 
+-- the rules in the table are those that remain, 1,536 at the most
 room : (s : List ℕ) (h : Header) (table : List ℕ) → parsed s ≡ Parsed.Read h → Compiled (automaton_of h (content s)) table
     → 5 * length (listed (next_in table) h.states h.symbols) ≤ 7680
 room s h table e k =
@@ -43,35 +39,51 @@ made s h table out o e k w =
 
 pub slice_bounds-contents-end : goal.slice_bounds-contents-end
 slice_bounds-contents-end c =
-    let content-is : take c.content_length-len.result c.parse.new.contents ≡ content c.args.file.now = contents-are _ _ _ _ c.in-Read.header _ c.in-Read.is c.parse.ensures.1 c.content_length-len.ensures in
-    contents-fit _ _ _ c.content_length-len.ensures (content-is)
+    -- the part of the buffer that is lent on holds the joined contents
+    let content-is : take c.content_length-len.result c.parse.new.contents ≡ content c.args.file.now =
+    contents-are _ _ _ _ c.in-Read.header _ c.in-Read.is c.parse.ensures.1 c.content_length-len.ensures in
+    contents-fit _ _ _ c.content_length-len.ensures content-is
 
 pub slice_bounds-compile-end : goal.slice_bounds-compile-end
 slice_bounds-compile-end c =
-    let content-is : take c.content_length-len.result c.parse.new.contents ≡ content c.args.file.now = contents-are _ _ _ _ c.in-Read.header _ c.in-Read.is c.parse.ensures.1 c.content_length-len.ensures in
-    rw (content-is) c.content_length-len.ensures
+    -- the part of the buffer that is lent on holds the joined contents
+    let content-is : take c.content_length-len.result c.parse.new.contents ≡ content c.args.file.now =
+    contents-are _ _ _ _ c.in-Read.header _ c.in-Read.is c.parse.ensures.1 c.content_length-len.ensures in
+    rw content-is c.content_length-len.ensures
 
 pub compile-requires : goal.compile-requires
 compile-requires c =
-    let is_read : parsed c.args.file.now ≡ Parsed.Read c.in-Read.header = sym c.parse.ensures.0 ∙ c.in-Read.is in
-    let content-is : take c.content_length-len.result c.parse.new.contents ≡ content c.args.file.now = contents-are _ _ _ _ c.in-Read.header _ c.in-Read.is c.parse.ensures.1 c.content_length-len.ensures in
-    (rw (content-is) (file-read _ _ (is_read)).laid_out, refl)
+    -- the file reads
+    let read : parsed c.args.file.now ≡ Parsed.Read c.in-Read.header = sym c.parse.ensures.0 ∙ c.in-Read.is in
+    -- the part of the buffer that is lent on holds the joined contents
+    let content-is : take c.content_length-len.result c.parse.new.contents ≡ content c.args.file.now =
+    contents-are _ _ _ _ c.in-Read.header _ c.in-Read.is c.parse.ensures.1 c.content_length-len.ensures in
+    (rw content-is (file-read _ _ read).laid_out, refl)
 
 pub write_table-requires : goal.write_table-requires
 write_table-requires c =
-    let is_read : parsed c.args.file.now ≡ Parsed.Read c.in-Read.header = sym c.parse.ensures.0 ∙ c.in-Read.is in
-    let content-is : take c.content_length-len.result c.parse.new.contents ≡ content c.args.file.now = contents-are _ _ _ _ c.in-Read.header _ c.in-Read.is c.parse.ensures.1 c.content_length-len.ensures in
-    let compiled : Compiled (automaton_of c.in-Read.header (content c.args.file.now)) c.compile.new.table = rw (content-is) at c.compile.ensures in
-    let e = is_read in
-    (file-limits _ _ e, room _ _ _ e (compiled))
+    -- the file reads
+    let read : parsed c.args.file.now ≡ Parsed.Read c.in-Read.header = sym c.parse.ensures.0 ∙ c.in-Read.is in
+    -- the part of the buffer that is lent on holds the joined contents
+    let content-is : take c.content_length-len.result c.parse.new.contents ≡ content c.args.file.now =
+    contents-are _ _ _ _ c.in-Read.header _ c.in-Read.is c.parse.ensures.1 c.content_length-len.ensures in
+    -- the table has the compiled transitions
+    let compiled : Compiled (automaton_of c.in-Read.header (content c.args.file.now)) c.compile.new.table = rw content-is at c.compile.ensures in
+    (file-limits _ _ read, room _ _ _ read compiled)
 
 pub returns-in-Refused : goal.returns-in-Refused
-returns-in-Refused c = both _ _ _ (sym (refused-is _ _ _ (sym c.parse.ensures.0 ∙ c.in-Refused.is)))
+returns-in-Refused c =
+    let e = sym (refused-is _ _ _ (sym c.parse.ensures.0 ∙ c.in-Refused.is)) in
+    record { equals = e; right = promised _ _ _ e }
 
 pub returns-in-Read : goal.returns-in-Read
 returns-in-Read c =
-    let is_read : parsed c.args.file.now ≡ Parsed.Read c.in-Read.header = sym c.parse.ensures.0 ∙ c.in-Read.is in
-    let content-is : take c.content_length-len.result c.parse.new.contents ≡ content c.args.file.now = contents-are _ _ _ _ c.in-Read.header _ c.in-Read.is c.parse.ensures.1 c.content_length-len.ensures in
-    let compiled : Compiled (automaton_of c.in-Read.header (content c.args.file.now)) c.compile.new.table = rw (content-is) at c.compile.ensures in
-    let e = is_read in
-    both _ _ _ (made _ _ _ _ _ e (compiled) c.write_table.ensures)
+    -- the file reads
+    let read : parsed c.args.file.now ≡ Parsed.Read c.in-Read.header = sym c.parse.ensures.0 ∙ c.in-Read.is in
+    -- the part of the buffer that is lent on holds the joined contents
+    let content-is : take c.content_length-len.result c.parse.new.contents ≡ content c.args.file.now =
+    contents-are _ _ _ _ c.in-Read.header _ c.in-Read.is c.parse.ensures.1 c.content_length-len.ensures in
+    -- the table has the compiled transitions
+    let compiled : Compiled (automaton_of c.in-Read.header (content c.args.file.now)) c.compile.new.table = rw content-is at c.compile.ensures in
+    let e = made _ _ _ _ _ read compiled c.write_table.ensures in
+    record { equals = e; right = promised _ _ _ e }

@@ -9,7 +9,6 @@ use Rattle.nodes.proofs.Standing.{size-preorder}
 use Rattle.nodes.specs.Preorder.{preorder}
 use lib.ListN.{take}
 use mathlib.Core.Path.{◌≡◌, sym, ◌∙◌}
-use borrow.Author.Rules.{rules}
 use Rattle.witness.proofs.file.put_tree.Goals as goal
 
 pub slice_bounds-write_tree-end : goal.slice_bounds-write_tree-end

@@ -2,7 +2,6 @@
 -- Assumes nothing.
 use Rattle.witness.proofs.Space.{large, not-large, counted, room-is}
 use Rattle.witness.specs.Written.{space_check}
-use borrow.Author.Rules.{rules}
 use native.Mathlib.Omega.{arith}
 use Rattle.witness.proofs.file.space_check.Goals as goal
 

@@ -9,7 +9,6 @@ use Rattle.witness.specs.Sound.{Sound}
 use Rattle.refusal.specs.declared.Check.TheVariants.{Passed}
 use lib.ListN.{length}
 use mathlib.Core.Path.{◌≡◌, sym, ◌∙◌}
-use borrow.Author.Rules.{rules}
 use Rattle.witness.proofs.file.write_checked.Goals as goal
 
 pub returns-in-Refused : goal.returns-in-Refused

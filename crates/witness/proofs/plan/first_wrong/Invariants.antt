@@ -1,11 +1,8 @@
 -- `witness::plan::first_wrong` meets its contract.
 -- Assumes nothing.
-use borrow.Author.Rules.{rules}
 use Prim.Native.Nat.{◌-◌, ◌≤◌}
-use mathlib.Core.Path.{◌≡◌, sym, ◌∙◌}
-use native.Mathlib.Nat.{sub-zero}
+use mathlib.Core.Path.{◌≡◌}
 use Rattle.blocks.specs.Search.{lowest, lowest_from}
-use Rattle.blocks.proofs.Laws.{lowest-passed, lowest-hit, lowest-none}
 use Rattle.witness.specs.Plan.{row_wrong}
 use Rattle.witness.proofs.plan.first_wrong.Given as goal
 

@@ -1,11 +1,8 @@
 -- `witness::plan::plan_size` meets its contract.
 -- Assumes nothing.
 use Rattle.witness.proofs.Writing.{sized-more}
-use Rattle.witness.specs.Sound.{Sized}
-use lib.ListN.{length, length-set}
-use mathlib.Core.Path.{◌≡◌}
+use lib.ListN.{length-set}
 use native.Mathlib.Omega.{arith}
-use Prim.Native.Nat.{◌-◌, ◌≤◌}
 use borrow.Author.Rules.{rules}
 use Rattle.witness.proofs.plan.plan_size.Goals as goal
 

@@ -1,12 +1,9 @@
 -- `witness::plan::plan_size` meets its contract.
 -- Assumes nothing.
-use Rattle.witness.proofs.Writing.{sized-more}
 use Rattle.witness.specs.Sound.{Sized}
-use lib.ListN.{length, length-set}
+use lib.ListN.{length}
 use mathlib.Core.Path.{◌≡◌}
-use native.Mathlib.Omega.{arith}
 use Prim.Native.Nat.{◌-◌, ◌≤◌}
-use borrow.Author.Rules.{rules}
 use Rattle.witness.proofs.plan.plan_size.Given as goal
 
 abbrev pub invariant-loop-i : goal.invariant-loop-i

@@ -1,6 +1,5 @@
 -- `witness::plan::row_wrong` meets its contract.
 -- Assumes nothing.
-use borrow.Author.Rules.{rules}
 use borrow.Author.Tests.{le-leb, lt-leb}
 use Rattle.witness.specs.Plan.{row_wrong}
 use Rattle.witness.proofs.plan.row_wrong.Goals as goal
