@@ -16,15 +16,15 @@ use Rattle.report_text.proofs.report_bytes.Goals as goal
 pub tally_all-tally-requires : goal.tally_all-tally-requires
 tally_all-tally-requires c =
     let ready : let h = c.in-Read.header in
-        WithinLimits h
-        × Ready (automaton_of h (content c.args.automaton.now)) h c.prepare.new.table c.prepare.new.leaves = prepared-ready _ _ _ _ _ _ _ c.in-Read.is c.prepare.ensures.1 in
+    WithinLimits h
+    × Ready (automaton_of h (content c.args.automaton.now)) h c.prepare.new.table c.prepare.new.leaves = prepared-ready _ _ _ _ _ _ _ c.in-Read.is c.prepare.ensures.1 in
     (ready).0
 
 pub put_read-end-requires : goal.put_read-end-requires
 put_read-end-requires c =
     let ready : let h = c.in-Read.header in
-        WithinLimits h
-        × Ready (automaton_of h (content c.args.automaton.now)) h c.prepare.new.table c.prepare.new.leaves = prepared-ready _ _ _ _ _ _ _ c.in-Read.is c.prepare.ensures.1 in
+    WithinLimits h
+    × Ready (automaton_of h (content c.args.automaton.now)) h c.prepare.new.table c.prepare.new.leaves = prepared-ready _ _ _ _ _ _ _ c.in-Read.is c.prepare.ensures.1 in
     (search rules, (ready).0)
 
 pub returns-in-Refused : goal.returns-in-Refused
@@ -34,8 +34,8 @@ pub returns-in-Read : goal.returns-in-Read
 returns-in-Read c =
     let read_is : parsed c.args.automaton.now ≡ Parsed.Read c.in-Read.header = sym c.prepare.ensures.0 ∙ c.in-Read.is in
     let ready : let h = c.in-Read.header in
-        WithinLimits h
-        × Ready (automaton_of h (content c.args.automaton.now)) h c.prepare.new.table c.prepare.new.leaves = prepared-ready _ _ _ _ _ _ _ c.in-Read.is c.prepare.ensures.1 in
+    WithinLimits h
+    × Ready (automaton_of h (content c.args.automaton.now)) h c.prepare.new.table c.prepare.new.leaves = prepared-ready _ _ _ _ _ _ _ c.in-Read.is c.prepare.ensures.1 in
     let told = c in
     let head = c.put_read-end.ensures.0 _ (ready).1 in
     told-as (then head c.put_tally.ensures.0) (report-read _ _ (read_is) _ _ (c.tally_all-tally.ensures _ (ready).1.headed))
