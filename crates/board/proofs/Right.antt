@@ -13,7 +13,6 @@ use lib.ListN.{length, drop}
 use Rattle.relation.specs.Sets.{member}
 use Rattle.model.specs.Lists.{◌∈◌, count_from}
 use Rattle.model.specs.Trees.{Tree}
-use Rattle.model.specs.declared.Signature.{Signature}
 use Rattle.model.specs.Saturation.{leaf_candidate, class_at, node_candidate, node_candidates, candidates, first_if, first_accepted, known, keep_if_new}
 use Rattle.model.specs.Saturation.{absorb, settle, conclude, round, after, rounds, saturation}
 use Rattle.model.specs.Saturation.{Verdict, Found, Open, Empty}

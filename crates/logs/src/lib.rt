@@ -30,6 +30,7 @@ pub enum Compared {
 }
 
 // Refusal 23: the first log is looked at first.
+#[tactic(auto, unfolding(crate::specs::Checks::logs_check))]
 fn logs_check(first: &[u8], second: &[u8]) -> Check
     ensures { result ≡ logs_check first.now second.now }
 {
