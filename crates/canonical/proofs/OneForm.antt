@@ -62,6 +62,9 @@ pub of-few : (n room : ℕ) → n ≤ 512 → form_check_of n room ≡ room_chec
 unfolding form_check_of
 of-few n room l = rw (le-ltb 512 n l)
 
+-- both, for the proof of `form_check`
+pub ruleset by_number = (of-many, of-few)
+
 pub of-passed : (n room : ℕ) → form_check_of n room ≡ Passed → (n ≤ 512) × (512 * blocks_needed (20 + 5 * n) ≤ room)
 unfolding form_check_of
 of-passed n room e =

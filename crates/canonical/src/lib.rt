@@ -21,6 +21,7 @@ use rule_order::write_rules;
 use transitions::TransitionTable;
 
 // Refusal 17, then 13, for so many rules.
+#[tactic(auto, using(crate::proofs::OneForm::by_number))]
 fn form_check(rules: usize, room: usize) -> Check
     ensures { result ≡ form_check_of rules room }
 {

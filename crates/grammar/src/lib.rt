@@ -86,11 +86,13 @@ fn open_tag(text: &[u8], at: usize, classes: &[u8; 256]) -> Opening
     if class != DIGIT {
         return Opening::Wrong(at + 2);
     }
-    if first == 0 {
+    let leading_zero = first == 0;
+    if leading_zero {
         return Opening::Wrong(at + 2);
     }
     let second = text[at + 2] - 48;
-    if class_at(text, at + 3, classes) != GREATER {
+    let ends = class_at(text, at + 3, classes) == GREATER;
+    if !ends {
         return Opening::Wrong(at + 3);
     }
     Opening::Named(10 * first + second, at + 4)

@@ -149,6 +149,11 @@ module _ (sg : Signature) (s : List ℕ) (passed : text_check s ≡ Passed) (tag
   unfolding tree_check
   small-tree h = rw (tags, few s passed h)
 
+-- the same where no tag is bad, for the check itself
+pub many_told : (sg : Signature) (s : List ℕ) → text_check s ≡ Passed → member sg.branches 0 ≡ false → lowest (bad_tag sg.branches s) (length s) ≡ Found.Nothing
+    → 4096 < length (nodes_in s) → tag_check sg s and_then tree_check s ≡ refused Fault.Count 1 2
+many_told sg s passed leaf tags h = large-tree sg s passed (other-tags sg s leaf _ tags) h
+
 -- what 4 leaves
 pub tree-few : (s : List ℕ) → text_check s ≡ Passed → tree_check s ≡ Passed → length (nodes_in s) ≤ 4096
 unfolding tree_check size_check
@@ -180,3 +185,8 @@ module _ (sg : Signature) (s out : List ℕ) where
     pub room-decides : tag_check sg s ≡ Passed → tree_check s ≡ Passed → markup_for sg s out ≡ filled_after (room_check (length (text_file s)) (length out)) (text_file s) out
     unfolding markup_for markup_check
     room-decides t k = rw (passed, t, k)
+
+-- a text that is too long, for the check itself
+pub long_told : (sg : Signature) (s out : List ℕ) (c : Check) (x : Written) → 32768 < length s → c ≡ refused Fault.Text 2 32768 → x ≡ refused_by c
+    → filled x out ≡ markup_for sg s out
+long_told sg s out c x h e f = text-told sg s out 32768 c x (text-long s h) e f

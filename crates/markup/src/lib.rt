@@ -34,6 +34,7 @@ fn refused_by(check: Check) -> Written
 }
 
 // Refusals 19, 4 and 12 of a text of so many nodes, where lines 10 to 12 refuse its nodes so.
+#[tactic(auto, using(crate::proofs::Checked::many_told))]
 fn refused_tree(signature: Signature, text: &[u8], count: usize, refusal: Refusal) -> Check
     requires signed { Signed signature × (text_check text.now ≡ Passed) × (member signature.branches 0 ≡ false) }
     requires count_value { (count ≡ length (nodes_in text.now)) × (nodes_check signature (nodes_in text.now) ≡ Refused refusal) }
@@ -83,6 +84,7 @@ fn write_nodes(signature: Signature, text: &[u8], nodes: &[u8], out: &mut [u8]) 
 }
 
 // The same of any text.
+#[tactic(auto, using(crate::proofs::Checked::long_told))]
 fn write_text(signature: Signature, text: &[u8], out: &mut [u8]) -> Written
     requires { Signed signature }
     ensures { filled result out.new ≡ markup_for signature text.now out.old }

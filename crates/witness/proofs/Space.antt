@@ -19,9 +19,10 @@ use Rattle.block_writer.proofs.Answers.{room-passed}
 use Rattle.witness.specs.Plan.{plan_tree, large_check}
 use Rattle.witness.specs.Written.{plan_file, space_check}
 
-pub large : (p : List ℕ) (n : ℕ) → n ≡ min (size (plan_tree p)) 4097 → 4096 < n → large_check p ≡ refused Fault.Large 2 0
-unfolding large_check
-large p n e h = rw (lt-ltb 4096 (size (plan_tree p)) (omega arith))
+-- `file::space_check` names this one
+pub space_large : (p : List ℕ) (room : ℕ) → 4096 < size (plan_tree p) → space_check p room ≡ refused Fault.Large 2 0
+unfolding space_check large_check
+space_large p room h = rw (lt-ltb 4096 (size (plan_tree p)) h)
 
 pub not-large : (p : List ℕ) (n : ℕ) → n ≡ min (size (plan_tree p)) 4097 → n ≤ 4096 → large_check p ≡ Passed
 unfolding large_check

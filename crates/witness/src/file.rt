@@ -15,6 +15,7 @@ use refusal::{Check, Fault, refused};
 use tree_writer::write_tree;
 
 // Refusal 16, then 13.
+#[tactic(auto, using(crate::proofs::Space::space_large))]
 fn space_check(plan: &[u8], room: usize) -> Check
     requires { Sound plan.now }
     ensures { result ≡ space_check plan.now room }

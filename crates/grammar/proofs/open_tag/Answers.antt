@@ -43,36 +43,35 @@ returns-then-class-ne-DIGIT c =
     (λ k. absurd (c.if-class-ne-DIGIT.true (c.class_at-class.ensures ∙ k)))
     (λ k. c.if-class-eq-GREATER.false (c.class_at-class.ensures ∙ k))
 
-pub returns-then-first-eq0 : goal.returns-then-first-eq0
-returns-then-first-eq0 c =
+pub returns-then-leading_zero : goal.returns-then-leading_zero
+returns-then-leading_zero c =
     let first-is : class_at c.args.text.now (c.args.at + 1) ≡ 1 = sym c.class_at.ensures ∙ c.if-class_at-ne-DIGIT.false in
     second-wrong _ _ c.requires.opens.0 c.requires.opens.1 first-is
-    (λ k. c.if-first-eq0.true)
+    (λ k. omega arith)
     (λ k. c.if-class-eq-GREATER.false (c.class_at-class.ensures ∙ k))
 
 pub bounds-text-at-2 : goal.bounds-text-at-2
 bounds-text-at-2 c =
     let first-is : class_at c.args.text.now (c.args.at + 1) ≡ 1 = sym c.class_at.ensures ∙ c.if-class_at-ne-DIGIT.false in
     let second_is : class_at c.args.text.now (c.args.at + 2) ≡ 1 = sym c.class_at-class.ensures ∙ c.if-class-ne-DIGIT.false in
-    let second_fits = second-byte _ _ c.requires.opens.0 c.requires.opens.1 first-is second_is c.if-first-eq0.false in
+    let second_fits = second-byte _ _ c.requires.opens.0 c.requires.opens.1 first-is second_is (omega arith) in
     second_fits.0
 
 pub overflow_sub-second : goal.overflow_sub-second
 overflow_sub-second c =
     let first-is : class_at c.args.text.now (c.args.at + 1) ≡ 1 = sym c.class_at.ensures ∙ c.if-class_at-ne-DIGIT.false in
     let second_is : class_at c.args.text.now (c.args.at + 2) ≡ 1 = sym c.class_at-class.ensures ∙ c.if-class-ne-DIGIT.false in
-    let second_fits = second-byte _ _ c.requires.opens.0 c.requires.opens.1 first-is second_is c.if-first-eq0.false in
+    let second_fits = second-byte _ _ c.requires.opens.0 c.requires.opens.1 first-is second_is (omega arith) in
     second_fits.1
 
-pub class_at-requires-2 : goal.class_at-requires-2
-class_at-requires-2 c = c.requires.table
+pub class_at-ends-requires : goal.class_at-ends-requires
+class_at-ends-requires c = c.requires.table
 
-pub returns-then-class_at-ne-GREATER : goal.returns-then-class_at-ne-GREATER
-returns-then-class_at-ne-GREATER c =
+pub returns-then-not-ends : goal.returns-then-not-ends
+returns-then-not-ends c =
     let first-is : class_at c.args.text.now (c.args.at + 1) ≡ 1 = sym c.class_at.ensures ∙ c.if-class_at-ne-DIGIT.false in
     let second_is : class_at c.args.text.now (c.args.at + 2) ≡ 1 = sym c.class_at-class.ensures ∙ c.if-class-ne-DIGIT.false in
-    third-wrong _ _ c.requires.opens.0 c.requires.opens.1 first-is second_is c.if-first-eq0.false
-    (λ k. c.if-class_at-ne-GREATER.true (c.class_at-2.ensures ∙ k))
+    third-wrong _ _ c.requires.opens.0 c.requires.opens.1 first-is second_is (omega arith) (omega arith)
 
 pub overflow_mul-result : goal.overflow_mul-result
 overflow_mul-result c =
@@ -85,7 +84,7 @@ overflow_add-result-2 c =
     let first-is : class_at c.args.text.now (c.args.at + 1) ≡ 1 = sym c.class_at.ensures ∙ c.if-class_at-ne-DIGIT.false in
     let first_fits = first_byte _ _ c.requires.opens.0 c.requires.opens.1 first-is in
     let second_is : class_at c.args.text.now (c.args.at + 2) ≡ 1 = sym c.class_at-class.ensures ∙ c.if-class-ne-DIGIT.false in
-    let second_fits = second-byte _ _ c.requires.opens.0 c.requires.opens.1 first-is second_is c.if-first-eq0.false in
+    let second_fits = second-byte _ _ c.requires.opens.0 c.requires.opens.1 first-is second_is (omega arith) in
     let h = first_fits in
     let k = second_fits in
     omega arith
@@ -94,5 +93,4 @@ pub returns : goal.returns
 returns c =
     let first-is : class_at c.args.text.now (c.args.at + 1) ≡ 1 = sym c.class_at.ensures ∙ c.if-class_at-ne-DIGIT.false in
     let second_is : class_at c.args.text.now (c.args.at + 2) ≡ 1 = sym c.class_at-class.ensures ∙ c.if-class-ne-DIGIT.false in
-    long _ _ c.requires.opens.0 c.requires.opens.1 first-is second_is c.if-first-eq0.false
-    (sym c.class_at-2.ensures ∙ c.if-class_at-ne-GREATER.false)
+    long _ _ c.requires.opens.0 c.requires.opens.1 first-is second_is (omega arith) (omega arith)

@@ -3,7 +3,7 @@
 use mathlib.Core.Path.{◌≡◌, sym, ◌∙◌}
 use native.Mathlib.Omega.{arith}
 use Rattle.markup.specs.Checks.{tag_check}
-use Rattle.markup.proofs.Checked.{other-tags, tags-passed, large-tree, small-tree}
+use Rattle.markup.proofs.Checked.{other-tags, tags-passed, small-tree}
 use Rattle.refusal.specs.declared.Check.TheVariants.{Passed}
 use Rattle.markup.proofs.refused_tree.Goals as goal
 
@@ -11,17 +11,9 @@ pub returns-in-At : goal.returns-in-At
 returns-in-At c =
     rw (other-tags c.args.signature c.args.text.now c.requires.signed.2 _ (sym c.first_bad_tag.ensures ∙ c.in-At.is)) c.refused.ensures
 
-pub returns-then-count-gt4096 : goal.returns-then-count-gt4096
-returns-then-count-gt4096 c =
-    let q = c.requires in
-    -- no tag is bad
-    let tags : tag_check c.args.signature c.args.text.now ≡ Passed =
-    other-tags c.args.signature c.args.text.now q.signed.2 _ (sym c.first_bad_tag.ensures ∙ c.in_default.is) in
-    c.refused-then-count-gt4096.ensures ∙ sym (large-tree _ _ q.signed.1 tags (omega (arith, q.count_value.0, c.if-count-gt4096.true)))
-
 pub returns : goal.returns
 returns c =
     let q = c.requires in
     let tags : tag_check c.args.signature c.args.text.now ≡ Passed =
     other-tags c.args.signature c.args.text.now q.signed.2 _ (sym c.first_bad_tag.ensures ∙ c.in_default.is) in
-    sym (small-tree _ _ q.signed.1 tags (omega (arith, q.count_value.0, c.if-count-gt4096.false)) ∙ sym (tags-passed _ _ q.signed.0 q.signed.1 q.signed.2 tags) ∙ q.count_value.1)
+    sym (small-tree _ _ q.signed.1 tags (omega (arith, q.count_value.0)) ∙ sym (tags-passed _ _ q.signed.0 q.signed.1 q.signed.2 tags) ∙ q.count_value.1)
