@@ -28,7 +28,7 @@ put_read-end-requires c =
     (search rules, (ready).0)
 
 pub returns-in-Refused : goal.returns-in-Refused
-returns-in-Refused c = told-as c.Put-refused.ensures.0 (report-refused _ _ _ (sym c.prepare.ensures.0 ∙ c.in-Refused.is))
+returns-in-Refused c = told-as c.put_refused.ensures.0 (report-refused _ _ _ (sym c.prepare.ensures.0 ∙ c.in-Refused.is))
 
 pub returns-in-Read : goal.returns-in-Read
 returns-in-Read c =
