@@ -86,7 +86,7 @@ loop-header-smaller c =
     let s = take (l.held + r.result) r.new.buffer in
     let all : length s ≡ l.held + r.result = got-all _ _ _ (r.ensures.3 ∙ l.invariant.0) r.ensures.0 in
     let on : part.more ≡ true = not-false _ c.if-not-part.false in
-    let whole : length s ≡ 65536 = omega (arith, all, r.ensures.0, c.if-all-lt65536.false) in
+    let whole : length s ≡ 65536 = omega (arith, all, r.ensures.0) in
     let some = some-file s l.answers part l.invariant.1 j.2 j.3 (j.4 on) whole j.6 in
     nearer l.tally c.count_all-tally.result c.judge_part-part.new.answers part.files c.count_all-tally.ensures j.0 l.invariant.3 some
 
