@@ -17,7 +17,7 @@
  * call at one time, each with memory of its own to be written to.
  *
  * Stack. A call takes at most so many bytes above its caller, whatever the input: measured on the inputs that take most, and held there, by
- * bindings/stack.c. The first call in a program may take a few kilobytes more, where the dynamic linker looks up memset and memcpy. */
+ * bindings/stack.c. The first call in a program may take a few kilobytes more, where the dynamic linker looks up memset, memcpy and memmove. */
 #ifndef ENGINE_H
 #define ENGINE_H
 

@@ -72,11 +72,10 @@ module _ (a b : List ℕ) where
   -- what is left of it gives the answer
   pub record Searched (end i : ℕ) : Type 0 where
     pub both-have : end ≡ min (length a) (length b)
-    pub within : i ≤ end
     pub left : common_bytes a b ≡ i + common_bytes (drop i a) (drop i b)
 
   pub searched-begins : (end : ℕ) → end ≡ min (length a) (length b) → Searched end 0
-  searched-begins end e = record { both-have = e; within = omega arith; left = omega arith }
+  searched-begins end e = record { both-have = e; left = omega arith }
 
   module _ (end i : ℕ) (h : Searched end i) where
     module _ (l : i < end) where
@@ -93,9 +92,9 @@ module _ (a b : List ℕ) where
       pub searched-on : get_or a i 0 ≡ get_or b i 0 → Searched end (i + 1)
       searched-on e =
           let more : common_bytes (drop i a) (drop i b) ≡ suc (common_bytes (drop (i + 1) a) (drop (i + 1) b)) = rw (here, eq-eqb _ _ e) in
-          record { both-have = h.both-have; within = omega arith; left = omega (arith, h.left, more) }
+          record { both-have = h.both-have; left = omega (arith, h.left, more) }
 
-    pub searched-all : end ≤ i → i ≡ common_bytes a b
-    searched-all l =
+    pub searched-all : end ≤ i → i ≤ end → end ≡ common_bytes a b
+    searched-all l within =
         let most = common-within (drop i a) (drop i b) in
-        omega (arith, h.left, h.within, h.both-have, most.0, most.1, length-drop i a, length-drop i b)
+        omega (arith, h.left, h.both-have, most.0, most.1, length-drop i a, length-drop i b)

@@ -1,29 +1,21 @@
 // The longest opening stretch of whole entries in which two logs agree, as that part of the first log itself (document 02, W8).
 #![tactic(auto)]
 
-ghost use Rattle.std.specs.Prelude.{◌≡◌, min};
+ghost use Rattle.std.specs.Prelude.{◌≡◌};
 ghost use Rattle.agreement.specs.Common.{common_bytes, common_entries, common_part};
 ghost use Rattle.agreement.specs.Longest.{Longest};
-
-fn least(a: usize, b: usize) -> usize
-    ensures { result ≡ min a b }
-{
-    if a < b { a } else { b }
-}
 
 // How many bytes from the start on are the same in both.
 fn common_bytes(first: &[u8], second: &[u8]) -> usize
     ensures { result ≡ common_bytes first.now second.now }
 {
-    let end = least(first.len(), second.len());
-    let mut at = 0;
-    while at < end {
+    let end = first.len().min(second.len());
+    for at in 0..end {
         if first[at] != second[at] {
             return at;
         }
-        at += 1;
     }
-    at
+    end
 }
 
 // The part of the first log in which the two agree, an entry being three bytes. It begins where the first log begins, and is lent for as long.

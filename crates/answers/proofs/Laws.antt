@@ -1,5 +1,6 @@
 -- The answers that are written are all that there is room for.
 -- Assumes nothing.
+use Rattle.std.proofs.Common.{Result, Ok, Err}
 use Prim.Native.Nat.{ℕ, ◌+◌, ◌*◌, ◌/◌, ◌<◌, ◌≤◌}
 use native.Mathlib.Omega.{arith}
 use mathlib.Core.Path.{◌≡◌, refl, sym, ap, ◌∙◌}
@@ -14,7 +15,6 @@ use Rattle.blocks.specs.Blocks.{content}
 use Rattle.refusal.specs.declared.Refusal.{Refusal}
 use Rattle.automaton.specs.File.{parsed}
 use Rattle.automaton.specs.declared.Header.{Header}
-use Rattle.automaton.specs.declared.file.Parsed.{Parsed}
 use Rattle.transitions.specs.Transitions.{automaton_of}
 use Rattle.membership.specs.Judged.{judged_by}
 use Rattle.membership.specs.Grown.{growth_by}
@@ -26,7 +26,6 @@ use Rattle.batch.proofs.Answering.{answers_next}
 use Rattle.batch.proofs.Parts.{put-more}
 use Rattle.batch.proofs.Sums.{sum_more}
 use Rattle.answers.specs.All.{answered, numbers_after, outcome, judged_all}
-use Rattle.answers.specs.declared.Judgement.{Judgement}
 
 -- no input, no answer; less than a file, one
 none : (A : Automaton) (s : List ℕ) → length s ≡ 0 → answers_of A s ≡ []
@@ -59,7 +58,7 @@ module _ (A : Automaton) (s lent lent' : List ℕ) (r : Judged) (p : Part A s le
   going e = all ∙ ap (λ (b : Bool). p.answers ++ later_if b (answers_of A (drop r.bytes s))) e
 
   pub nothing_left : r.more ≡ true → length (drop r.bytes s) ≡ 0 → Told r.files lent'
-  nothing_left e z = so_far (whole (going e ∙ ap (λ (l : List Answer). p.answers ++ l) (none A (drop r.bytes s) z) ∙ append-nil p.answers))
+  nothing_left e z = so_far (whole (going e ∙ ap (λ (l : List (Result Answer Refusal)). p.answers ++ l) (none A (drop r.bytes s) z) ∙ append-nil p.answers))
 
   pub no_room : r.more ≡ true → length lent < 3 * r.files + 3 → Told r.files lent'
   unfolding answered
@@ -80,7 +79,7 @@ module _ (A : Automaton) (s lent lent' : List ℕ) (r : Judged) (p : Part A s le
       let a = judged_by A x in
       let last : answers_of A (drop r.bytes s) ≡ judged_by A x ∷ [] =
       rw (← is) (one A x some (rw (← is) at (left-short stopped space))) in
-      let every : answers_of A s ≡ p.answers ++ judged_by A x ∷ [] = going e ∙ ap (λ (l : List Answer). p.answers ++ l) last in
+      let every : answers_of A s ≡ p.answers ++ judged_by A x ∷ [] = going e ∙ ap (λ (l : List (Result Answer Refusal)). p.answers ++ l) last in
       let count : length (p.answers ++ judged_by A x ∷ []) ≡ r.files + 1 = length-append p.answers (judged_by A x ∷ []) ∙ ap (λ (n : ℕ). n + 1) p.count in
       let written : take (length lent / 3) (answers_of A s) ≡ p.answers ++ judged_by A x ∷ [] =
       ap (take (length lent / 3)) every ∙ take_all (length lent / 3) (p.answers ++ judged_by A x ∷ []) (omega (arith, count)) in
@@ -98,12 +97,12 @@ last_sum A n at s lent before after x b d e short put =
 
 -- ---- over an automaton's file
 
-pub all-refused : (w s lent g : List ℕ) (x : Refusal) → parsed w ≡ Parsed.Refused x → outcome (Judgement.Refused x) lent g ≡ judged_all w s lent g
+pub all-refused : (w s lent g : List ℕ) (x : Refusal) → parsed w ≡ Err x → outcome (Err x) lent g ≡ judged_all w s lent g
 unfolding judged_all
 all-refused w s lent g x e = rw e refl
 
-pub all_read : (w s lent g : List ℕ) (h : Header) → parsed w ≡ Parsed.Read h → (n : ℕ) (after sums : List ℕ)
+pub all_read : (w s lent g : List ℕ) (h : Header) → parsed w ≡ Ok h → (n : ℕ) (after sums : List ℕ)
     → n ≡ length (answered (automaton_of h (content w)) s lent) → after ≡ numbers_after (answered (automaton_of h (content w)) s lent) lent
-    → sums ≡ growths_after (automaton_of h (content w)) n s g → outcome (Judgement.Files n) after sums ≡ judged_all w s lent g
+    → sums ≡ growths_after (automaton_of h (content w)) n s g → outcome (Ok n) after sums ≡ judged_all w s lent g
 unfolding judged_all
 all_read w s lent g h e n after sums f a b = rw (e, b, a, f) refl

@@ -9,18 +9,11 @@ ghost use Rattle.batch.specs.Answers.{growths_after};
 ghost use Rattle.answers.specs.All.{answered, numbers_after, outcome, judged_all, Each};
 
 use automaton::Header;
-use automaton::file::Parsed;
 use batch::back;
 use batch::part::{judge_one, weigh_part};
+use class_tables::Cache;
 use refusal::Refusal;
 use transitions::TransitionTable;
-
-// How many files were judged; or the automaton's refusal.
-#[derive(Clone, Copy)]
-pub enum Judgement {
-    Files(usize),
-    Refused(Refusal),
-}
 
 // Judges files, by an automaton that was read, as many as there is room for their answers: how many. The cache begins with no class.
 fn judge_files(
@@ -36,24 +29,8 @@ fn judge_files(
         × (answers.new ≡ numbers_after (answered A bytes.now answers.old) answers.old)
         × (growths.new ≡ growths_after A result bytes.now growths.old) }
 {
-    let mut counts = [1u32; 6];
-    let mut store = [0u32; 49152];
-    let mut maps = [0u16; 66560];
-    let mut cells = [0u64; 16384];
-    let mut hints = [0u16; 6144];
-    counts[4] = 2048;
-    let part = weigh_part(
-        header,
-        table,
-        bytes,
-        answers,
-        growths,
-        &mut counts,
-        &mut store,
-        &mut maps,
-        &mut cells,
-        &mut hints,
-    );
+    let mut cache = Cache::fresh();
+    let part = weigh_part(header, table, bytes, answers, growths, &mut cache);
     let files = part.files;
     if !part.more {
         return files;
@@ -66,20 +43,7 @@ fn judge_files(
     if answers.len() - at < 3 {
         return files;
     }
-    judge_one(
-        header,
-        table,
-        rest,
-        answers,
-        at,
-        growths,
-        files,
-        &mut counts,
-        &mut store,
-        &mut maps,
-        &mut cells,
-        &mut hints,
-    );
+    judge_one(header, table, rest, answers, at, growths, files, &mut cache);
     files + 1
 }
 
@@ -90,16 +54,12 @@ pub fn judge_all(
     trees: &[u8],
     answers: &mut [usize],
     growths: &mut [usize],
-) -> Judgement
+) -> Result<usize, Refusal>
     ensures equals { outcome result answers.new growths.new
         ≡ judged_all automaton.now trees.now answers.old growths.old }
     ensures right { Each automaton.now trees.now (outcome result answers.new growths.new) }
 {
     let mut table = [0u32; 9216];
-    match transitions::load(automaton, &mut table) {
-        Parsed::Refused(refusal) => Judgement::Refused(refusal),
-        Parsed::Read(header) => {
-            Judgement::Files(judge_files(header, &table, trees, answers, growths))
-        }
-    }
+    let header = transitions::load(automaton, &mut table)?;
+    Ok(judge_files(header, &table, trees, answers, growths))
 }

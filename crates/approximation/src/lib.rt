@@ -11,10 +11,11 @@ ghost use Rattle.algorithms.specs.Approximate as spec;
 ghost use Rattle.automaton.specs.File.{WithinLimits};
 ghost use Rattle.overloops.specs.Ready.{Headed, Ready};
 ghost use Rattle.classes.specs.Classes.{parts_in};
+ghost use Rattle.classes.specs.Prepared.{ReadyFor};
 
 use algorithms::is_branch;
 use automaton::Header;
-use classes::{Class, leaf_class, node_class};
+use classes::{Class, Prepared, leaf_class, node_class};
 use model::{Place, Symbol};
 use overloops::{LeafTable, leaf_loops, node_loops};
 use relation::Relation;
@@ -101,10 +102,12 @@ fn root_loops(table: &TransitionTable, header: Header, sets: Class) -> Relation
 }
 
 // Whether no loop at the root leads from an initial state to a final one, with the least sets for the parts.
-pub fn is_clear(table: &TransitionTable, leaves: &LeafTable, header: Header) -> bool
-    requires { WithinLimits header }
-    ensures { (A : Automaton) → Ready A header table.now leaves.now → result ≡ spec.clear? A }
+pub fn is_clear(prepared: Prepared) -> bool
+    requires { WithinLimits prepared.header }
+    ensures { (A : Automaton) → ReadyFor A prepared.entry → result ≡ spec.clear? A }
 {
-    let sets = settled(table, header, leaf_sets(leaves, header));
+    let header = prepared.header;
+    let table = prepared.table;
+    let sets = settled(table, header, leaf_sets(prepared.leaves, header));
     !root_loops(table, header, sets).meets(header.initial, header.accepting)
 }

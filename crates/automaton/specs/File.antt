@@ -1,17 +1,15 @@
 -- What reading an automaton's file gives (document 01, the walker file): its header, lines 1 to 9 of the table of refusals, and the order.
 -- Interface: `header_of`, `counts_check`, `beyond`, `sets_check`, `layout_check`, `LaidOut`, `WithinLimits`, `signature_in`, `body_check`, `parsed`, `contents_after`, `read_automaton`.
-use Rattle.std.specs.Prelude.{ℕ, ◌+◌, ◌*◌, ◌/◌, ◌^◌, ◌≤◌, Bool, not, List, ◌++◌, length, get_or, drop, eqb}
+use Rattle.std.specs.Prelude.{ℕ, ◌+◌, ◌*◌, ◌/◌, ◌^◌, ◌≤◌, Bool, not, List, ◌++◌, length, get_or, drop, eqb, Result, Ok, Err}
 use Rattle.blocks.specs.Blocks.{half_at, word_at, content}
-use Rattle.refusal.specs.Checks.{refuse_if, ◌and_then◌, check_each}
+use Rattle.refusal.specs.Checks.{refuse_if, ◌and_then◌, check_each, Check}
 use Rattle.refusal.specs.Lines.{file_check, kind_check, count_check, size_check, filler_check}
-use Rattle.refusal.specs.declared.Check.{Check}
 use Rattle.refusal.specs.declared.Fault.{Fault}
 use Rattle.refusal.specs.declared.Refusal.{Refusal}
 use Rattle.refusal.specs.declared.lines.Format.{Format}
 use Rattle.model.specs.declared.Signature.{Signature}
 use Rattle.automaton.specs.Rules.{rule_check}
 use Rattle.automaton.specs.declared.Header.{Header}
-use Rattle.automaton.specs.declared.file.Parsed.{Parsed}
 
 -- file 0, kind 87, at most 3,072 bytes, zero at the offsets 3, 6 and 7
 abbrev pub format : Format
@@ -75,29 +73,29 @@ signature_in h = record { symbols = h.symbols; branches = h.branches }
 unfoldable pub body_check : Header → List ℕ → Check
 body_check h p = filler_check format (payload h) p and_then sets_check h and_then rules_check h p
 
-abbrev pub read_of : Check → Header → Parsed
-read_of Check.Passed h = Parsed.Read h
-read_of (Check.Refused r) h = Parsed.Refused r
+abbrev pub read_of : Check → Header → Result Header Refusal
+read_of (Ok tt) h = Ok h
+read_of (Err r) h = Err r
 
 -- reading a file: the first line that refuses it, else its header
-unfoldable pub parsed : List ℕ → Parsed
+unfoldable pub parsed : List ℕ → Result Header Refusal
 parsed s =
     let p = content s in
     let h = header_of p in
     read_of (file_check format s and_then layout_check h p and_then body_check h p) h
 
 -- what a lent buffer holds afterwards: the joined contents at its front; on a refusal, what it held
-abbrev pub contents_after : Parsed → (file buffer : List ℕ) → List ℕ
-contents_after (Parsed.Read h) file buffer = content file ++ drop (length (content file)) buffer
-contents_after (Parsed.Refused r) file buffer = buffer
+abbrev pub contents_after : Result Header Refusal → (file buffer : List ℕ) → List ℕ
+contents_after (Ok h) file buffer = content file ++ drop (length (content file)) buffer
+contents_after (Err r) file buffer = buffer
 
 -- ---- what is answered to a file
 
 -- to a refused one by its refusal, to any other by its header and the joined contents: every answer to an automaton's file goes by this
 module _ {ℓ} {X : Type ℓ} where
-  abbrev pub by_reading : Parsed → (contents : List ℕ) → (refused : Refusal → X) → (read : Header → (contents : List ℕ) → X) → X
-  by_reading (Parsed.Read h) contents refused read = read h contents
-  by_reading (Parsed.Refused r) contents refused read = refused r
+  abbrev pub by_reading : Result Header Refusal → (contents : List ℕ) → (refused : Refusal → X) → (read : Header → (contents : List ℕ) → X) → X
+  by_reading (Ok h) contents refused read = read h contents
+  by_reading (Err r) contents refused read = refused r
 
   abbrev pub read_automaton : (file : List ℕ) → (refused : Refusal → X) → (read : Header → (contents : List ℕ) → X) → X
   read_automaton file refused read = by_reading (parsed file) (content file) refused read

@@ -4,14 +4,7 @@ ghost use Rattle.automaton.specs.File.{header_of, counts_check, layout_check, be
 
 use crate::{Contents, Header};
 use refusal::lines::{Format, count_check, file_check, filler_check, kind_check, size_check};
-use refusal::{Check, Fault, Refusal, refused};
-
-// What reading a file gives.
-#[derive(Clone, Copy)]
-pub enum Parsed {
-    Read(Header),
-    Refused(Refusal),
-}
+use refusal::{Fault, Refusal, refused};
 
 // The format of the file (specs/File.antt, `format`).
 const FORMAT: Format = Format {
@@ -22,6 +15,7 @@ const FORMAT: Format = Format {
 };
 
 // The counts and the sets.
+#[tactic(auto, unfolding(crate::specs::File::header_of))]
 fn header(content: &[u8]) -> Header
     requires { 20 ≤ length content.now }
     ensures { result ≡ header_of content.now }
@@ -37,29 +31,23 @@ fn header(content: &[u8]) -> Header
 }
 
 // Line 4: states, symbols and rules.
-fn counts_check(header: Header) -> Check
+#[tactic(auto, unfolding(crate::specs::File::counts_check))]
+fn counts_check(header: Header) -> Result<(), Refusal>
     ensures { result ≡ counts_check header }
 {
-    if let Check::Refused(refusal) = count_check(FORMAT, header.states as usize, 1, 24, 1) {
-        return Check::Refused(refusal);
-    }
-    if let Check::Refused(refusal) = count_check(FORMAT, header.symbols as usize, 1, 32, 2) {
-        return Check::Refused(refusal);
-    }
+    count_check(FORMAT, header.states as usize, 1, 24, 1)?;
+    count_check(FORMAT, header.symbols as usize, 1, 32, 2)?;
     count_check(FORMAT, header.rules as usize, 0, 512, 4)
 }
 
 // Lines 3 to 5.
-fn layout_check(content: &[u8], header: Header) -> Check
+#[tactic(auto, unfolding(crate::specs::File::layout_check))]
+fn layout_check(content: &[u8], header: Header) -> Result<(), Refusal>
     requires { 20 ≤ length content.now }
     ensures { result ≡ layout_check header content.now }
 {
-    if let Check::Refused(refusal) = kind_check(FORMAT, content) {
-        return Check::Refused(refusal);
-    }
-    if let Check::Refused(refusal) = counts_check(header) {
-        return Check::Refused(refusal);
-    }
+    kind_check(FORMAT, content)?;
+    counts_check(header)?;
     size_check(FORMAT, content, 20 + 5 * (header.rules as usize))
 }
 
@@ -72,7 +60,8 @@ fn is_beyond(set: u32, count: u8) -> bool
 }
 
 // Line 7.
-fn sets_check(header: Header) -> Check
+#[tactic(auto, unfolding(crate::specs::File::sets_check))]
+fn sets_check(header: Header) -> Result<(), Refusal>
     requires { (header.states ≤ 32) × (header.symbols ≤ 32) }
     ensures { result ≡ sets_check header }
 {
@@ -85,48 +74,39 @@ fn sets_check(header: Header) -> Check
     if is_beyond(header.branches, header.symbols) {
         return refused(Fault::Set, 0, 16);
     }
-    Check::Passed
+    Ok(())
 }
 
 // Lines 6 to 9, of contents that are as long as the header says.
-fn body_check(content: &[u8], header: Header) -> Check
+#[tactic(auto, unfolding(crate::specs::File::body_check, crate::specs::File::rules_check))]
+fn body_check(content: &[u8], header: Header) -> Result<(), Refusal>
     requires { LaidOut header content.now }
     ensures { result ≡ body_check header content.now }
 {
     let end = 20 + 5 * (header.rules as usize);
-    if let Check::Refused(refusal) = filler_check(FORMAT, content, end) {
-        return Check::Refused(refusal);
-    }
-    if let Check::Refused(refusal) = sets_check(header) {
-        return Check::Refused(refusal);
-    }
+    filler_check(FORMAT, content, end)?;
+    sets_check(header)?;
     crate::rules::rules_check(content, header)
 }
 
 // Reads an automaton's file by document 01's table: its counts and sets, and its joined contents at the front of a lent buffer; or its refusal.
 // The canonical form reads by this at all times.
-pub fn parse(file: &[u8], contents: &mut Contents) -> Parsed
+pub fn parse(file: &[u8], contents: &mut Contents) -> Result<Header, Refusal>
     ensures { (result ≡ parsed file.now) × (contents.new ≡ contents_after result file.now contents.old) }
 {
-    if let Check::Refused(refusal) = file_check(FORMAT, file) {
-        return Parsed::Refused(refusal);
-    }
+    file_check(FORMAT, file)?;
     let mut buffer = [0u8; 3048];
     let len = blocks::join(file, &mut buffer);
     let content = &buffer[..len];
     let header = header(content);
-    if let Check::Refused(refusal) = layout_check(content, header) {
-        return Parsed::Refused(refusal);
-    }
-    if let Check::Refused(refusal) = body_check(content, header) {
-        return Parsed::Refused(refusal);
-    }
+    layout_check(content, header)?;
+    body_check(content, header)?;
     copying::copy(content, contents);
-    Parsed::Read(header)
+    Ok(header)
 }
 
 // What all other calls read an automaton's file by: the same table.
-pub fn read(file: &[u8], contents: &mut Contents) -> Parsed
+pub fn read(file: &[u8], contents: &mut Contents) -> Result<Header, Refusal>
     ensures { (result ≡ parsed file.now) × (contents.new ≡ contents_after result file.now contents.old) }
 {
     parse(file, contents)

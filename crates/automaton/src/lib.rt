@@ -4,7 +4,10 @@
 pub mod file;
 pub mod rules;
 
-use model::{Move, Place, State, Symbol};
+ghost use Rattle.std.specs.Prelude.{◌≡◌};
+ghost use Rattle.automaton.specs.File.{signature_in};
+
+use model::{Move, Place, Signature, State, Symbol};
 
 // Room for the joined contents of the longest file, six blocks.
 pub type Contents = [u8; 3048];
@@ -35,4 +38,16 @@ pub struct Header {
     pub initial: u32,
     pub accepting: u32,
     pub branches: u32,
+}
+
+// The symbols that trees are read against.
+impl From<Header> for Signature {
+    ghost from_gives = { λ header signature. signature ≡ signature_in header };
+
+    fn from(header: Header) -> Signature {
+        Signature {
+            symbols: header.symbols,
+            branches: header.branches,
+        }
+    }
 }

@@ -6,63 +6,43 @@ ghost use Rattle.automaton.specs.Rules.{sort_place, sort_move, sorted, rule_at, 
 use crate::{Header, Rule, Scope};
 use algorithms::is_branch;
 use model::{Move, Place, Side, State, Symbol};
-use refusal::{Check, Fault, refused};
-
-#[derive(Clone, Copy)]
-pub enum PlaceByte {
-    Known(Scope),
-    Unknown,
-}
-
-#[derive(Clone, Copy)]
-pub enum MoveByte {
-    Known(Move),
-    Unknown,
-}
-
-#[derive(Clone, Copy)]
-pub enum RuleBytes {
-    Known(Rule),
-    Unknown,
-}
+use refusal::{Fault, Refusal, refused};
 
 // The places that a byte stands for.
-fn sort_place(b: u8) -> PlaceByte
+#[tactic(auto, unfolding(crate::specs::Rules::sort_place))]
+fn sort_place(b: u8) -> Option<Scope>
     ensures { result ≡ sort_place b }
 {
     match b {
-        0 => PlaceByte::Known(Scope::Only(Place::Root)),
-        1 => PlaceByte::Known(Scope::Only(Place::Child(Side::Left))),
-        2 => PlaceByte::Known(Scope::Only(Place::Child(Side::Right))),
-        3 => PlaceByte::Known(Scope::Every),
-        4..=255 => PlaceByte::Unknown,
+        0 => Some(Scope::Only(Place::Root)),
+        1 => Some(Scope::Only(Place::Child(Side::Left))),
+        2 => Some(Scope::Only(Place::Child(Side::Right))),
+        3 => Some(Scope::Every),
+        4..=255 => None,
     }
 }
 
 // The move that a byte stands for.
-fn sort_move(b: u8) -> MoveByte
+#[tactic(auto, unfolding(crate::specs::Rules::sort_move))]
+fn sort_move(b: u8) -> Option<Move>
     ensures { result ≡ sort_move b }
 {
     match b {
-        0 => MoveByte::Known(Move::Stay),
-        1 => MoveByte::Known(Move::Up),
-        2 => MoveByte::Known(Move::Down(Side::Left)),
-        3 => MoveByte::Known(Move::Down(Side::Right)),
-        4..=255 => MoveByte::Unknown,
+        0 => Some(Move::Stay),
+        1 => Some(Move::Up),
+        2 => Some(Move::Down(Side::Left)),
+        3 => Some(Move::Down(Side::Right)),
+        4..=255 => None,
     }
 }
 
 // The rule of five bytes, where the place and the move are known.
-fn sort_rule(symbol: u8, state: u8, place: u8, step: u8, next: u8) -> RuleBytes
+fn sort_rule(symbol: u8, state: u8, place: u8, step: u8, next: u8) -> Option<Rule>
     ensures { result ≡ sorted symbol state (sort_place place) (sort_move step) next }
 {
-    let PlaceByte::Known(scope) = sort_place(place) else {
-        return RuleBytes::Unknown;
-    };
-    let MoveByte::Known(step) = sort_move(step) else {
-        return RuleBytes::Unknown;
-    };
-    RuleBytes::Known(Rule {
+    let scope = sort_place(place)?;
+    let step = sort_move(step)?;
+    Some(Rule {
         symbol: Symbol(symbol),
         state: State(state),
         scope,
@@ -85,7 +65,8 @@ fn are_known(header: Header, symbol: u8, state: u8, next: u8) -> bool
 }
 
 // Rule i, where each of its five bytes has a value that there is.
-pub fn rule_at(content: &[u8], header: Header, i: usize) -> RuleBytes
+#[tactic(auto, unfolding(crate::specs::Rules::rule_at))]
+pub fn rule_at(content: &[u8], header: Header, i: usize) -> Option<Rule>
     requires { 25 + 5 * i ≤ length content.now }
     ensures { result ≡ rule_at header content.now i }
 {
@@ -96,7 +77,7 @@ pub fn rule_at(content: &[u8], header: Header, i: usize) -> RuleBytes
     if are_known(header, symbol, state, next) {
         return sort_rule(symbol, state, content[at + 2], content[at + 3], next);
     }
-    RuleBytes::Unknown
+    None
 }
 
 // Whether a rule may apply at the root.
@@ -113,6 +94,7 @@ fn may_be_root(scope: Scope) -> bool
 }
 
 // Whether a rule moves down at a leaf, or up where it may apply at the root.
+#[tactic(auto, unfolding(crate::specs::Rules::misplaced))]
 fn is_misplaced(branches: u32, rule: Rule) -> bool
     ensures { result ≡ misplaced branches rule }
 {
@@ -127,31 +109,28 @@ fn is_misplaced(branches: u32, rule: Rule) -> bool
 }
 
 // Lines 8 and 9 of rule i.
-fn rule_check(content: &[u8], header: Header, i: usize) -> Check
+#[tactic(auto, unfolding(crate::specs::Rules::rule_check))]
+fn rule_check(content: &[u8], header: Header, i: usize) -> Result<(), Refusal>
     requires { 25 + 5 * i ≤ length content.now }
     ensures { result ≡ rule_check header content.now i }
 {
-    let RuleBytes::Known(rule) = rule_at(content, header, i) else {
+    let Some(rule) = rule_at(content, header, i) else {
         return refused(Fault::Value, 0, i);
     };
     if is_misplaced(header.branches, rule) {
         return refused(Fault::Move, 0, i);
     }
-    Check::Passed
+    Ok(())
 }
 
 // Lines 8 and 9, rule by rule.
-pub fn rules_check(content: &[u8], header: Header) -> Check
+pub fn rules_check(content: &[u8], header: Header) -> Result<(), Refusal>
     requires { 20 + 5 * header.rules ≤ length content.now }
     ensures { result ≡ check_each (rule_check header content.now) header.rules }
 {
     let rules = header.rules as usize;
-    let mut i = 0;
-    while i < rules {
-        if let Check::Refused(refusal) = rule_check(content, header, i) {
-            return Check::Refused(refusal);
-        }
-        i += 1;
+    for i in 0..rules {
+        rule_check(content, header, i)?;
     }
-    Check::Passed
+    Ok(())
 }

@@ -1,5 +1,6 @@
 -- Reading the file of a header and rules gives that header and those rules, where they pass the table.
 -- Assumes nothing.
+use Rattle.std.proofs.Common.{Some, None, Ok}
 use Prim.Native.Nat.{ℕ, zero, suc, ◌+◌, ◌*◌, ◌/◌, ◌%◌, ◌^◌, ◌<◌, ◌≤◌}
 use native.Mathlib.Omega.{arith}
 use native.Mathlib.Nat.{one-mul, div-eq_of_lt, div-lt_iff_lt-mul, lt_of_lt_of_le}
@@ -15,7 +16,6 @@ use Rattle.blocks.specs.FileOf.{file_of, word_bytes}
 use Rattle.blocks.proofs.Written.{word-bytes, file-content-at}
 use Rattle.refusal.specs.Checks.{◌and_then◌, refuse_if}
 use Rattle.refusal.specs.Lines.{kind_check}
-use Rattle.refusal.specs.declared.Check.TheVariants.{Passed}
 use Rattle.refusal.specs.declared.Fault.{Fault}
 use Rattle.refusal.proofs.Cases.{each-passes}
 use Rattle.refusal.proofs.Passed.{both-passed, if-passed}
@@ -25,7 +25,6 @@ use Rattle.automaton.specs.Payload.{place_byte, move_byte, records_of, payload_o
 use Rattle.automaton.specs.Rules.{sort_place, sort_move, sorted, known_if, rule_at, rule_check}
 use Rattle.automaton.specs.declared.Header.{Header}
 use Rattle.automaton.specs.declared.Rule.{Rule}
-use Rattle.automaton.specs.declared.rules.RuleBytes.{RuleBytes}
 use Rattle.automaton.proofs.Bytes.{sort-place, sort-move}
 use Rattle.automaton.proofs.Passed.{Limits, counts-limit}
 use Rattle.automaton.proofs.Records.{records-length}
@@ -38,7 +37,7 @@ use Rattle.automaton_writer.specs.ReadsBack.{Fits, FitsEach, Passing, ReadsBack}
 record RuleAt (h : Header) (rs : List Rule) (i : ℕ) : Type 0 where
   rule : Rule
   fits : Fits h rule
-  known : get_or (map RuleBytes.Known rs) i RuleBytes.Unknown ≡ RuleBytes.Known rule
+  known : get_or (map Some rs) i None ≡ Some rule
   symbol : get_or (records_of rs) (5 * i) 0 ≡ rule.symbol.0
   state : get_or (records_of rs) (5 * i + 1) 0 ≡ rule.state.0
   place : get_or (records_of rs) (5 * i + 2) 0 ≡ place_byte rule.scope
@@ -72,7 +71,7 @@ rule-at h (r ∷ rs) (suc j) f l =
 fits-known : (h : Header) (r : Rule) → Fits h r
     → known_if (ltb r.symbol.0 h.symbols && ltb r.state.0 h.states && ltb r.next.0 h.states)
     (sorted r.symbol.0 r.state.0 (sort_place (place_byte r.scope)) (sort_move (move_byte r.step)) r.next.0)
-    ≡ RuleBytes.Known r
+    ≡ Some r
 fits-known h r f =
     rw (lt-ltb _ _ f.symbol, lt-ltb _ _ f.state, lt-ltb _ _ f.next, sort-place r.scope, sort-move r.step)
 
@@ -91,7 +90,7 @@ record SetsFit (h : Header) : Type 0 where
   accepting : h.accepting < 4294967296
   branches : h.branches < 4294967296
 
-sets-fit : (h : Header) → Limits h → sets_check h ≡ Passed → SetsFit h
+sets-fit : (h : Header) → Limits h → sets_check h ≡ Ok tt → SetsFit h
 unfolding sets_check
 sets-fit h few e =
     let initial = refuse_if (beyond h.states h.initial) Fault.Set 0 8 in
@@ -165,7 +164,7 @@ module _ (h : Header) (rs : List Rule) (ok : Passing h rs) where
   unfolding bytes
   at i j e = joined_at i ∙ record-byte h (records_of rs) i j e
 
-  rule-known : (i : ℕ) (a : RuleAt h rs i) → rule_at h joined i ≡ RuleBytes.Known a.rule
+  rule-known : (i : ℕ) (a : RuleAt h rs i) → rule_at h joined i ≡ Some a.rule
   unfolding rule_at
   rule-known i a =
       let b0 = at (20 + 5 * i) (5 * i) refl ∙ a.symbol in
@@ -175,28 +174,28 @@ module _ (h : Header) (rs : List Rule) (ok : Passing h rs) where
       let b4 = at (20 + 5 * i + 4) (5 * i + 4) (omega arith) ∙ a.next in
       rw (b0, b1, b2, b3, b4) (fits-known h a.rule a.fits)
 
-  rule-is : (i : ℕ) → i < length rs → rule_at h joined i ≡ get_or (map RuleBytes.Known rs) i RuleBytes.Unknown
+  rule-is : (i : ℕ) → i < length rs → rule_at h joined i ≡ get_or (map Some rs) i None
   rule-is i l = let a = rule-at h rs i ok.rules l in rule-known i a ∙ sym a.known
 
-  rule-passes : (i : ℕ) → i < h.rules → rule_check h joined i ≡ Passed
+  rule-passes : (i : ℕ) → i < h.rules → rule_check h joined i ≡ Ok tt
   unfolding rule_check
   rule-passes i l =
       let a = rule-at h rs i ok.rules (omega (arith, ok.number)) in
       rw (rule-known i a, a.fits.placed)
 
-  rules-pass : rules_check h joined ≡ Passed
+  rules-pass : rules_check h joined ≡ Ok tt
   unfolding rules_check
   rules-pass = each-passes (rule_check h joined) 0 h.rules (λ i lo hi. rule-passes i (omega arith))
 
-  kind-passes : kind_check format joined ≡ Passed
+  kind-passes : kind_check format joined ≡ Ok tt
   unfolding kind_check bytes payload_of
   kind-passes = rw (joined_at 0)
 
-  layout-passes : layout_check h joined ≡ Passed
+  layout-passes : layout_check h joined ≡ Ok tt
   unfolding layout_check joined
   layout-passes = rw (kind-passes, ok.counts, ← bytes-length) (written-passes format bytes fits-file).size
 
-  body-passes : body_check h joined ≡ Passed
+  body-passes : body_check h joined ≡ Ok tt
   unfolding body_check joined
   body-passes = rw (← bytes-length, (written-passes format bytes fits-file).filler, ok.sets, rules-pass)
 

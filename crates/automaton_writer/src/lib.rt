@@ -58,10 +58,8 @@ fn write_payload(header: Header, records: &[u8], payload: &mut [u8]) -> usize
         × (payload.new ≡ payload_of header records.now ++ drop result payload.old) }
 {
     let len = 20 + records.len();
-    let mut i = 0;
-    while i < len {
+    for i in 0..len {
         payload[i] = payload_byte(header, records, i);
-        i += 1;
     }
     len
 }

@@ -1,5 +1,6 @@
 -- The answers of a batch: one file more; and the tally of a batch is its answers, each counted in turn.
 -- Assumes nothing.
+use Rattle.std.proofs.Common.{Result}
 use Prim.Native.Nat.{ℕ, zero, suc, ◌*◌, ◌<◌, ◌≤◌}
 use native.Mathlib.Omega.{arith}
 use mathlib.Core.Path.{◌≡◌, refl, ap, ◌∙◌}
@@ -14,12 +15,13 @@ use Rattle.membership.specs.declared.Answer.{Answer}
 use Rattle.batch.specs.Batch.{file_blocks, first_length, rest_of, ends_batch}
 use Rattle.batch.specs.Answers.{answers_by, first_answer, last_answer, answers_within, answers_of, later_if}
 use Rattle.batch.proofs.Laws.{some_block, rest-shorter}
+use Rattle.refusal.specs.declared.Refusal.{Refusal}
 
 -- what comes later counts only where there are more
-by-more : (none last : Bool) (a : Answer) (x y : List Answer) → (none ≡ false → last ≡ false → x ≡ y) → answers_by none last a x ≡ answers_by none last a y
+by-more : (none last : Bool) (a : Result Answer Refusal) (x y : List (Result Answer Refusal)) → (none ≡ false → last ≡ false → x ≡ y) → answers_by none last a x ≡ answers_by none last a y
 by-more true last a x y f = refl
 by-more false true a x y f = refl
-by-more false false a x y f = ap (λ (l : List Answer). a ∷ l) (f refl refl)
+by-more false false a x y f = ap (λ (l : List (Result Answer Refusal)). a ∷ l) (f refl refl)
 
 or-none : (a b : Bool) → (a || b) ≡ false → a ≡ false
 or-none true b e = e
@@ -57,7 +59,7 @@ module _ (A : Automaton) (s rest : List ℕ) (whole : first_length s ≤ length 
   same_rest : rest_of (s ++ rest) ≡ rest_of s ++ rest
   same_rest = ap (λ (n : ℕ). drop n (s ++ rest)) same_length ∙ drop-append-le (first_length s) s rest whole
 
-  by-ends : (b : Bool) (a : Answer) (l : List Answer) → answers_by false b a l ≡ a ∷ later_if (not b) l
+  by-ends : (b : Bool) (a : Result Answer Refusal) (l : List (Result Answer Refusal)) → answers_by false b a l ≡ a ∷ later_if (not b) l
   by-ends true a l = refl
   by-ends false a l = refl
 

@@ -1,5 +1,6 @@
 -- The tally of a batch is its answers, each counted in turn; and so it is of a part of it.
 -- Assumes nothing.
+use Rattle.std.proofs.Common.{Result, Ok, Err}
 use Prim.Native.Nat.{ℕ, zero, suc, ◌*◌, ◌<◌}
 use native.Mathlib.Omega.{arith}
 use mathlib.Core.Path.{◌≡◌, refl, sym, ap, ◌∙◌}
@@ -10,11 +11,9 @@ use borrow.Author.Tests.{ltb-true, eq-eqb, lt-ltb}
 use lib.Dec.{eqb, ltb}
 use lib.ListN.{length, take, drop, length-drop}
 use lib.Seq.{take_at, take_all}
-use Rattle.refusal.specs.declared.Check.{Check}
 use Rattle.refusal.specs.declared.Refusal.{Refusal}
 use Rattle.algorithms.specs.Automaton.{Automaton}
 use Rattle.tree.specs.File.{read_tree}
-use Rattle.tree.specs.declared.file.ParsedTree.{ParsedTree}
 use Rattle.membership.specs.Judged.{signature_of, answer_of, judged_by}
 use Rattle.membership.specs.declared.Answer.{Answer}
 use Rattle.tally.specs.Tally.{limit_check, counted_up}
@@ -28,30 +27,31 @@ use Rattle.batch.proofs.Laws.{some_block, batch-next}
 use Rattle.batch.proofs.Lengths.{file-length}
 use Rattle.batch.proofs.Answering.{answers_next}
 use Rattle.batch.proofs.Parts.{numbers-length}
+use Rattle.refusal.specs.Checks.{Check}
 
 -- a file that stops is refused
 cut-refused : (A : Automaton) (s : List ℕ) → length s < first_length s → outcome_of (first_answer A s) ≡ Outcome.Refused
 unfolding judged_by
 cut-refused A s l = rw (take_all (first_length s) s (omega arith)) (by (read_tree (signature_of A) s) refl)
   where
-    by : (r : ParsedTree) → read_tree (signature_of A) s ≡ r → outcome_of (answer_of A r s) ≡ Outcome.Refused
-    by (ParsedTree.Nodes k) e = absurd (omega (arith, file-length (signature_of A) s k e))
-    by (ParsedTree.Refused x) e = refl
+    by : (r : Result ℕ Refusal) → read_tree (signature_of A) s ≡ r → outcome_of (answer_of A r s) ≡ Outcome.Refused
+    by (Ok k) e = absurd (omega (arith, file-length (signature_of A) s k e))
+    by (Err x) e = refl
 
 -- a full tally stays
-full-one : (t : Tally) (r : Refusal) (o : Outcome) → limit_check t ≡ Check.Refused r → (counted_up t o).tally ≡ t
+full-one : (t : Tally) (r : Refusal) (o : Outcome) → limit_check t ≡ Err r → (counted_up t o).tally ≡ t
 unfolding counted_up
 full-one t r o e = rw e refl
 
-full-stays : (t : Tally) (r : Refusal) (l : List Answer) → limit_check t ≡ Check.Refused r → counted_answers t l ≡ t
+full-stays : (t : Tally) (r : Refusal) (l : List (Result Answer Refusal)) → limit_check t ≡ Err r → counted_answers t l ≡ t
 full-stays t r [] e = refl
 full-stays t r (a ∷ l) e = ap (λ (u : Tally). counted_answers u l) (full-one t r (outcome_of a) e) ∙ full-stays t r l e
 
-passed-check : (t : Tally) (o : Outcome) → limit_check t ≡ Check.Passed → passes (counted_up t o).check ≡ true
+passed-check : (t : Tally) (o : Outcome) → limit_check t ≡ Ok tt → passes (counted_up t o).check ≡ true
 unfolding counted_up
 passed-check t o e = rw e refl
 
-full-check : (t : Tally) (r : Refusal) (o : Outcome) → limit_check t ≡ Check.Refused r → passes (counted_up t o).check ≡ false
+full-check : (t : Tally) (r : Refusal) (o : Outcome) → limit_check t ≡ Err r → passes (counted_up t o).check ≡ false
 unfolding counted_up
 full-check t r o e = rw e refl
 
@@ -68,19 +68,19 @@ module _ (A : Automaton) (rest : List ℕ) (later : (t : Tally) → batch_of A t
   abbrev t₁ : Tally → Outcome → Tally
   t₁ t o = (counted_up t o).tally
 
-  going : (t : Tally) (a : Answer) (c : Check) → limit_check t ≡ c
+  going : (t : Tally) (a : Result Answer Refusal) (c : Check) → limit_check t ≡ c
       → cond (passes (counted_up t (outcome_of a)).check) (batch_of A (t₁ t (outcome_of a)) rest) (t₁ t (outcome_of a)) ≡ counted_answers (t₁ t (outcome_of a)) (answers_of A rest)
-  going t a Check.Passed e = rw (passed-check t (outcome_of a) e) (later (t₁ t (outcome_of a)))
-  going t a (Check.Refused r) e =
+  going t a (Ok tt) e = rw (passed-check t (outcome_of a) e) (later (t₁ t (outcome_of a)))
+  going t a (Err r) e =
       rw (full-check t r (outcome_of a) e, full-one t r (outcome_of a) e) (sym (full-stays t r (answers_of A rest) e))
 
-  by-ends : (t : Tally) (a : Answer) (b : Bool)
+  by-ends : (t : Tally) (a : Result Answer Refusal) (b : Bool)
       → cond (passes (counted_up t (outcome_of a)).check && not b) (batch_of A (t₁ t (outcome_of a)) rest) (t₁ t (outcome_of a))
       ≡ counted_answers t (answers_by false b a (answers_of A rest))
   by-ends t a true = rw (and_none (passes (counted_up t (outcome_of a)).check)) refl
   by-ends t a false = rw (and-all (passes (counted_up t (outcome_of a)).check)) (going t a (limit_check t) refl)
 
-  by_turn : (t : Tally) (none stops : Bool) (a : Answer) → (none ≡ false → stops ≡ true → outcome_of a ≡ Outcome.Refused)
+  by_turn : (t : Tally) (none stops : Bool) (a : Result Answer Refusal) → (none ≡ false → stops ≡ true → outcome_of a ≡ Outcome.Refused)
       → going_on (taken t (turn_by none stops a)) (batch_of A (taken t (turn_by none stops a)).tally rest)
       ≡ counted_answers t (answers_by none (stops || ends_batch a) a (answers_of A rest))
   by_turn t true stops a f = refl
@@ -90,7 +90,7 @@ module _ (A : Automaton) (rest : List ℕ) (later : (t : Tally) → batch_of A t
   by_turn t false false a f = by-ends t a (ends_batch a)
 
 -- no input, no answer: what is left of it counts for nothing
-by-none : (t : Tally) (none stops : Bool) (a : Answer) (x : Tally) (l : List Answer) → none ≡ true
+by-none : (t : Tally) (none stops : Bool) (a : Result Answer Refusal) (x : Tally) (l : List (Result Answer Refusal)) → none ≡ true
     → going_on (taken t (turn_by none stops a)) x ≡ counted_answers t (answers_by none (stops || ends_batch a) a l)
 by-none t none stops a x l e = rw e refl
 
@@ -124,17 +124,17 @@ batch-answers A t s = within (suc (length s)) A t s (omega arith)
 
 -- ---- of a part
 
-counted-append : (t : Tally) (l r : List Answer) → counted_answers t (l ++ r) ≡ counted_answers (counted_answers t l) r
+counted-append : (t : Tally) (l r : List (Result Answer Refusal)) → counted_answers t (l ++ r) ≡ counted_answers (counted_answers t l) r
 counted-append t [] r = refl
 counted-append t (a ∷ l) r = counted-append (counted_up t (outcome_of a)).tally l r
 
 -- answers that are written count as they do
-counted-numbers : (t : Tally) (l : List Answer) → counted_all t (all_numbers l) ≡ counted_answers t l
+counted-numbers : (t : Tally) (l : List (Result Answer Refusal)) → counted_all t (all_numbers l) ≡ counted_answers t l
 unfolding counted_all
 counted-numbers t [] = refl
-counted-numbers t (Answer.Accepted ∷ l) = counted-numbers (counted_up t Outcome.Accepted).tally l
-counted-numbers t (Answer.Other ∷ l) = counted-numbers (counted_up t Outcome.Other).tally l
-counted-numbers t (Answer.Refused r ∷ l) = counted-numbers (counted_up t Outcome.Refused).tally l
+counted-numbers t ((Ok Answer.Accepted) ∷ l) = counted-numbers (counted_up t Outcome.Accepted).tally l
+counted-numbers t ((Ok Answer.Other) ∷ l) = counted-numbers (counted_up t Outcome.Other).tally l
+counted-numbers t (Err r ∷ l) = counted-numbers (counted_up t Outcome.Refused).tally l
 
 -- the batch after a part: of what was not judged, where it goes on
 abbrev pub gone_on : Automaton → (more : Bool) → Tally → (s : List ℕ) → Tally

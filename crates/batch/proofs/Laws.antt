@@ -1,4 +1,5 @@
 -- Laws of the number of blocks of a file, of the first file, and of the batch. Assumes nothing.
+use Rattle.std.proofs.Common.{Result, Ok, Err}
 use Prim.Native.Nat.{ℕ, zero, suc, ◌+◌, ◌*◌, ◌/◌, ◌≤◌, ◌<◌}
 use mathlib.Core.Path.{◌≡◌, refl}
 use mathlib.Core.Bool.{Bool, true, false, cond, ◌&&◌}
@@ -8,13 +9,11 @@ use borrow.Author.Tests.{ltb-false, eq-eqb, ne_eqb, lt-ltb, le-ltb, le-leb, lt-l
 use lib.Dec.{eqb, ltb, leb}
 use lib.ListN.{length, take, length-drop}
 use Rattle.blocks.specs.Blocks.{half_at, content}
-use Rattle.refusal.specs.declared.Check.{Check}
 use Rattle.refusal.specs.declared.Refusal.{Refusal}
 use Rattle.refusal.proofs.Passed.{clash}
 use Rattle.automaton.specs.File.{parsed}
 use Rattle.algorithms.specs.Automaton.{Automaton}
 use Rattle.automaton.specs.declared.Header.{Header}
-use Rattle.automaton.specs.declared.file.Parsed.{Parsed}
 use Rattle.transitions.specs.Transitions.{automaton_of}
 use Rattle.membership.specs.Judged.{judged_by}
 use Rattle.membership.specs.declared.Answer.{Answer}
@@ -71,7 +70,7 @@ and_none : (b : Bool) → (b && false) ≡ false
 and_none true = refl
 and_none false = refl
 
-more_by : (a b : Bool) (t : Tally) (x : Answer) → (taken t (turn_by a b x)).more ≡ true → b ≡ false
+more_by : (a b : Bool) (t : Tally) (x : Result Answer Refusal) → (taken t (turn_by a b x)).more ≡ true → b ≡ false
 more_by true b t x e = clash (cc)
 more_by false true t x e = clash (cc (and_none (passes (counted_up t Outcome.Refused).check)))
 more_by false false t x e = refl
@@ -106,11 +105,11 @@ batch-next A t s =
 
 -- ---- over an automaton's file
 
-pub tallied-refused : (w trees : List ℕ) (t : Tally) (r : Refusal) → parsed w ≡ Parsed.Refused r → record { tally = t; check = Check.Refused r } ≡ tallied_of w trees t
+pub tallied-refused : (w trees : List ℕ) (t : Tally) (r : Refusal) → parsed w ≡ Err r → record { tally = t; check = Err r } ≡ tallied_of w trees t
 unfolding tallied_of
 tallied-refused w trees t r e = rw e refl
 
-pub tallied-read : (w trees : List ℕ) (t u : Tally) (h : Header) → parsed w ≡ Parsed.Read h → u ≡ batch_of (automaton_of h (content w)) t trees
-    → record { tally = u; check = Check.Passed } ≡ tallied_of w trees t
+pub tallied-read : (w trees : List ℕ) (t u : Tally) (h : Header) → parsed w ≡ Ok h → u ≡ batch_of (automaton_of h (content w)) t trees
+    → record { tally = u; check = Ok tt } ≡ tallied_of w trees t
 unfolding tallied_of
 tallied-read w trees t u h e f = rw (e, f) refl

@@ -1,4 +1,5 @@
 -- The length told by the first block is that of every file that reads. Assumes nothing.
+use Rattle.std.proofs.Common.{Ok, Err}
 use Prim.Native.Nat.{ℕ, ◌+◌, ◌*◌, ◌/◌, ◌%◌, ◌≤◌, ◌<◌}
 use mathlib.Core.Path.{◌≡◌, refl, sym, ap, ap₂, ◌∙◌}
 use mathlib.Core.List.{List}
@@ -8,19 +9,17 @@ use lib.ListN.{length, get_or, take}
 use lib.Seq.{get_or-take, length-take-le}
 use Rattle.blocks.specs.Blocks.{half_at, content}
 use Rattle.blocks.proofs.Laws.{content-length, content-at}
-use Rattle.refusal.specs.Checks.{◌and_then◌}
+use Rattle.refusal.specs.Checks.{◌and_then◌, Check}
 use Rattle.refusal.specs.Lines.{file_check, kind_check, count_check, blocks_needed, size_check}
-use Rattle.refusal.specs.declared.Check.{Check}
 use Rattle.refusal.specs.declared.Fault.{Fault}
 use Rattle.refusal.proofs.Passed.{clash, both-passed, if-passed, count-passed, file-passed}
 use Rattle.model.specs.declared.Signature.{Signature}
 use Rattle.tree.specs.File.{tree_format, count_of, layout_check, body_check, nodes_if, read_tree}
-use Rattle.tree.specs.declared.file.ParsedTree.{ParsedTree}
 use Rattle.batch.specs.Batch.{file_blocks}
 
-passed-of : (c : Check) (k k' : ℕ) → nodes_if c k ≡ ParsedTree.Nodes k' → c ≡ Check.Passed
-passed-of Check.Passed k k' e = refl
-passed-of (Check.Refused r) k k' e = clash (cc)
+passed-of : (c : Check) (k k' : ℕ) → nodes_if c k ≡ Ok k' → c ≡ Ok tt
+passed-of (Ok tt) k k' e = refl
+passed-of (Err r) k k' e = clash (cc)
 
 -- a byte of the header stands in the first block
 header-byte : (s : List ℕ) (i : ℕ) → 512 ≤ length s → i < 4 → get_or (content s) i 0 ≡ get_or (take 512 s) i 0
@@ -37,7 +36,7 @@ blocks-of first nodes h e l = rw (← e, le-leb 4 (length first) h, le-leb nodes
 whole-blocks : (n m b : ℕ) → n % 512 ≡ 0 → m ≡ n / 512 * 508 → m / 508 ≡ b → n ≡ 512 * b
 whole-blocks n m b e f g = omega arith
 
-pub file-length : (sg : Signature) (s : List ℕ) (k : ℕ) → read_tree sg s ≡ ParsedTree.Nodes k → length s ≡ 512 * file_blocks (take 512 s)
+pub file-length : (sg : Signature) (s : List ℕ) (k : ℕ) → read_tree sg s ≡ Ok k → length s ≡ 512 * file_blocks (take 512 s)
 unfolding read_tree layout_check size_check
 file-length sg s k e =
     let p = content s in

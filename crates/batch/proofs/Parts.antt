@@ -1,5 +1,6 @@
 -- Answers written one after another: three numbers stored, and a file more.
 -- Assumes nothing.
+use Rattle.std.proofs.Common.{Result, Ok, Err}
 use Prim.Native.Nat.{ℕ, suc, ◌+◌, ◌*◌, ◌≤◌}
 use native.Mathlib.Omega.{arith}
 use mathlib.Core.Path.{◌≡◌, refl, sym, ap, ◌∙◌}
@@ -13,6 +14,7 @@ use Rattle.membership.specs.declared.Answer.{Answer}
 use Rattle.batch.specs.Batch.{first_length, rest_of, ends_batch}
 use Rattle.batch.specs.Answers.{first_answer, answers_of, answer_numbers, all_numbers, later_if, Part}
 use Rattle.batch.proofs.Answering.{answers-file}
+use Rattle.refusal.specs.declared.Refusal.{Refusal}
 
 -- three stores, one after another
 pub put_three : (l : List ℕ) (at a b c : ℕ) → set (set (set l at a) (at + 1) b) (at + 2) c ≡ sets l at (a ∷ b ∷ c ∷ [])
@@ -22,24 +24,24 @@ put_three l at a b c =
     rw (one, two) refl
 
 -- an answer's three numbers
-pub numbers-each : (a : Answer) → get_or (answer_numbers a) 0 0 ∷ get_or (answer_numbers a) 1 0 ∷ get_or (answer_numbers a) 2 0 ∷ [] ≡ answer_numbers a
-numbers-each Answer.Accepted = refl
-numbers-each Answer.Other = refl
-numbers-each (Answer.Refused r) = refl
+pub numbers-each : (a : Result Answer Refusal) → get_or (answer_numbers a) 0 0 ∷ get_or (answer_numbers a) 1 0 ∷ get_or (answer_numbers a) 2 0 ∷ [] ≡ answer_numbers a
+numbers-each (Ok Answer.Accepted) = refl
+numbers-each (Ok Answer.Other) = refl
+numbers-each (Err r) = refl
 
-pub three-numbers : (a : Answer) → length (answer_numbers a) ≡ 3
-three-numbers Answer.Accepted = refl
-three-numbers Answer.Other = refl
-three-numbers (Answer.Refused r) = refl
+pub three-numbers : (a : Result Answer Refusal) → length (answer_numbers a) ≡ 3
+three-numbers (Ok Answer.Accepted) = refl
+three-numbers (Ok Answer.Other) = refl
+three-numbers (Err r) = refl
 
-pub numbers-length : (l : List Answer) → length (all_numbers l) ≡ 3 * length l
+pub numbers-length : (l : List (Result Answer Refusal)) → length (all_numbers l) ≡ 3 * length l
 numbers-length [] = refl
 numbers-length (a ∷ l) = length-append (answer_numbers a) (all_numbers l) ∙ omega (arith, three-numbers a, numbers-length l)
 
-numbers_more : (l : List Answer) (a : Answer) → all_numbers (l ++ a ∷ []) ≡ all_numbers l ++ answer_numbers a
-numbers_more [] Answer.Accepted = refl
-numbers_more [] Answer.Other = refl
-numbers_more [] (Answer.Refused r) = refl
+numbers_more : (l : List (Result Answer Refusal)) (a : Result Answer Refusal) → all_numbers (l ++ a ∷ []) ≡ all_numbers l ++ answer_numbers a
+numbers_more [] (Ok Answer.Accepted) = refl
+numbers_more [] (Ok Answer.Other) = refl
+numbers_more [] (Err r) = refl
 numbers_more (b ∷ l) a = ap (λ (x : List ℕ). answer_numbers b ++ x) (numbers_more l a) ∙ sym (append_assoc (answer_numbers b) (all_numbers l) (answer_numbers a))
 
 -- stores that begin where a list ends
@@ -50,7 +52,7 @@ stored-after x y v n m e f room =
     ∙ rw (take_at x y n e, f, ← drop-drop m n (x ++ y), drop_at x y n e) refl
 
 -- one answer more, behind the others
-pub put-more : (l : List Answer) (a : Answer) (lent lent' lent'' : List ℕ) (files : ℕ) → length l ≡ files → 3 * files + 3 ≤ length lent
+pub put-more : (l : List (Result Answer Refusal)) (a : Result Answer Refusal) (lent lent' lent'' : List ℕ) (files : ℕ) → length l ≡ files → 3 * files + 3 ≤ length lent
     → lent' ≡ all_numbers l ++ drop (3 * files) lent → lent'' ≡ sets lent' (3 * files) (answer_numbers a)
     → lent'' ≡ all_numbers (l ++ a ∷ []) ++ drop (3 * (files + 1)) lent
 put-more l a lent lent' lent'' files count room written put =
@@ -68,7 +70,7 @@ module _ (A : Automaton) (s lent lent' lent'' : List ℕ) (files at n : ℕ) (mo
     (within : n ≤ length (drop at s)) (room : 3 * files + 3 ≤ length lent)
     (put : lent'' ≡ sets lent' (3 * files) (answer_numbers (judged_by A (take n (drop at s)))))
     (ends : more' ≡ not (ends_batch (judged_by A (take n (drop at s))))) where
-  abbrev a : Answer
+  abbrev a : Result Answer Refusal
   a = judged_by A (take n (drop at s))
 
   whole : first_length (drop at s) ≤ length (drop at s)
@@ -90,6 +92,6 @@ module _ (A : Automaton) (s lent lent' lent'' : List ℕ) (files at n : ℕ) (mo
     count = length-append p.answers (a ∷ []) ∙ ap (λ (m : ℕ). m + 1) p.count;
     written = put-more p.answers a lent lent' lent'' files p.count room p.written put;
     all = λ rest.
-        p.all rest ∙ rw on (ap (λ (x : List Answer). p.answers ++ x) (later rest)
+        p.all rest ∙ rw on (ap (λ (x : List (Result Answer Refusal)). p.answers ++ x) (later rest)
         ∙ sym (append_assoc p.answers (a ∷ []) (later_if more' (answers_of A (drop (at + n) s ++ rest)))));
   }

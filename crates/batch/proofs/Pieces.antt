@@ -1,4 +1,5 @@
 -- A batch that is read in pieces: what a full tally comes to, and that a tally grows. Assumes nothing.
+use Rattle.std.proofs.Common.{Result}
 use Prim.Native.Nat.{ℕ, ◌<◌, ◌≤◌}
 use native.Mathlib.Omega.{arith}
 use mathlib.Core.Path.{◌≡◌, refl, ap, ◌∙◌}
@@ -20,13 +21,14 @@ use Rattle.counting.specs.Counting.{outcome_numbered, counted_all}
 use Rattle.batch.specs.Batch.{blocks_of, file_blocks, first_length, outcome_of, batch_of}
 use Rattle.batch.specs.Answers.{answers_of, counted_answers}
 use Rattle.batch.proofs.Counted.{batch-answers}
+use Rattle.refusal.specs.declared.Refusal.{Refusal}
 
 -- ---- a full tally stays, whatever follows
 
 full-one : (t : Tally) (o : Outcome) → 1000000 ≤ total t → (counted_up t o).tally ≡ t
 full-one t o h = ap (λ (x : Tallied). x.tally) (counted-full t o h)
 
-full-answers : (t : Tally) (l : List Answer) → 1000000 ≤ total t → counted_answers t l ≡ t
+full-answers : (t : Tally) (l : List (Result Answer Refusal)) → 1000000 ≤ total t → counted_answers t l ≡ t
 full-answers t [] h = refl
 full-answers t (a ∷ l) h = ap (λ (u : Tally). counted_answers u l) (full-one t (outcome_of a) h) ∙ full-answers t l h
 

@@ -12,7 +12,8 @@ use Rattle.model.specs.declared.Side.{Side}
 use Rattle.algorithms.specs.Automaton.{Automaton}
 use Rattle.tally.specs.declared.Tally.{Tally}
 use Rattle.counting.specs.Counting.{counted_all}
-use Rattle.class_tables.specs.Cache.{indices, CachedIn}
+use Rattle.class_tables.specs.Cache.{indices, CachedIn, Cached, Fresh}
+use Rattle.class_tables.specs.declared.Cache.{Cache}
 use Rattle.class_tables.proofs.Empty.{zeros, no-pairs, empty}
 use Rattle.batch.specs.Batch.{first_length, rest_counted, batch_of}
 use Rattle.batch.specs.Answers.{Part, Stopped}
@@ -32,6 +33,9 @@ pub begins : (A : Automaton) → CachedIn A counts₁ (replicate 49152 0) (repli
 begins A =
     empty A counts₁ (replicate 49152 0) (replicate 66560 0) (replicate 16384 0) refl refl refl refl refl one_index
     (no-pairs (replicate 49152 0) refl (zeros 49152)) (zeros 66560) (zeros 16384)
+
+pub fresh-cached : (A : Automaton) (cache : Cache) → Fresh cache → Cached A cache
+fresh-cached A cache e = rw (e.0, e.1, e.2, e.3) (begins A)
 
 -- ---- a part more
 

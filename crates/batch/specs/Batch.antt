@@ -1,10 +1,9 @@
 -- A batch (document 01, "Tally and report"): trees' files end to end, each counted, until the input or the batch ends. The quotations are of
 -- that section. Interface: `file_blocks`, `first_length`, `turn_of`, `next_in`, `batch_of`, `nothing_counted`, `tallied_of`. `Answers` has the
 -- same file by file.
-use Rattle.std.specs.Prelude.{Bool, true, false, not, cond, ◌&&◌, List, ℕ, zero, suc, ◌+◌, ◌*◌, length, take, drop, eqb, ltb, leb}
+use Rattle.std.specs.Prelude.{Bool, true, false, not, cond, ◌&&◌, List, ℕ, zero, suc, ◌+◌, ◌*◌, length, take, drop, eqb, ltb, leb, Result, Ok, Err}
 use Rattle.blocks.specs.Blocks.{half_at}
 use Rattle.refusal.specs.Lines.{blocks_needed}
-use Rattle.refusal.specs.declared.Check.{Check}
 use Rattle.transitions.specs.Transitions.{by_automaton}
 use Rattle.algorithms.specs.Automaton.{Automaton}
 use Rattle.membership.specs.Judged.{judged_by}
@@ -13,6 +12,8 @@ use Rattle.tally.specs.Tally.{counted_up}
 use Rattle.tally.specs.declared.Tally.{Tally}
 use Rattle.tally.specs.declared.Tallied.{Tallied}
 use Rattle.tally.specs.declared.Outcome.{Outcome}
+use Rattle.refusal.specs.Checks.{Check}
+use Rattle.refusal.specs.declared.Refusal.{Refusal}
 
 -- ---- the length of a file
 
@@ -34,16 +35,16 @@ first_length s = 512 * file_blocks (take 512 s)
 -- ---- what the first file comes to
 
 -- "accepted, other (judged, not accepted), refused"
-abbrev pub outcome_of : Answer → Outcome
-outcome_of Answer.Accepted = Outcome.Accepted
-outcome_of Answer.Other = Outcome.Other
-outcome_of (Answer.Refused r) = Outcome.Refused
+abbrev pub outcome_of : Result Answer Refusal → Outcome
+outcome_of (Ok Answer.Accepted) = Outcome.Accepted
+outcome_of (Ok Answer.Other) = Outcome.Other
+outcome_of (Err r) = Outcome.Refused
 
 -- "refusal 1 to 4 .. ends the batch"
-abbrev pub ends_batch : Answer → Bool
-ends_batch Answer.Accepted = false
-ends_batch Answer.Other = false
-ends_batch (Answer.Refused r) = leb r.number 4
+abbrev pub ends_batch : Result Answer Refusal → Bool
+ends_batch (Ok Answer.Accepted) = false
+ends_batch (Ok Answer.Other) = false
+ends_batch (Err r) = leb r.number 4
 
 -- what a batch has next: nothing, as there is no input left; or a file, by its outcome and whether the batch goes on after it
 pub data Turn : Type 0 where
@@ -51,7 +52,7 @@ pub data Turn : Type 0 where
   File : Outcome → Bool → Turn
 
 -- a file that was judged: its outcome, and whether the batch goes on after it
-abbrev pub judged_turn : Answer → Turn
+abbrev pub judged_turn : Result Answer Refusal → Turn
 judged_turn a = File (outcome_of a) (not (ends_batch a))
 
 -- "input that stops inside a letter, counts one refused and ends the batch"
@@ -59,7 +60,7 @@ abbrev pub cut_off : Turn
 cut_off = File Outcome.Refused false
 
 -- no input is left; or it stops inside a file; or a whole file is there
-abbrev pub turn_by : (none stops : Bool) → Answer → Turn
+abbrev pub turn_by : (none stops : Bool) → Result Answer Refusal → Turn
 turn_by true stops a = End
 turn_by false true a = cut_off
 turn_by false false a = judged_turn a
@@ -77,8 +78,8 @@ pub record Next : Type 0 where
 
 -- "Refusal 14 ends it uncounted."
 abbrev pub passes : Check → Bool
-passes Check.Passed = true
-passes (Check.Refused r) = false
+passes (Ok tt) = true
+passes (Err r) = false
 
 abbrev pub taken : Tally → Turn → Next
 taken t End = record { tally = t; more = false }
@@ -120,4 +121,4 @@ abbrev pub tallied : Tally → Check → Tallied
 tallied t c = record { tally = t; check = c }
 
 unfoldable pub tallied_of : (w trees : List ℕ) → Tally → Tallied
-tallied_of w trees t = by_automaton w (λ r. tallied t (Check.Refused r)) (λ A. tallied (batch_of A t trees) Check.Passed)
+tallied_of w trees t = by_automaton w (λ r. tallied t (Err r)) (λ A. tallied (batch_of A t trees) (Ok tt))

@@ -3,8 +3,6 @@ ghost use Rattle.std.specs.Prelude.{◌≡◌};
 ghost use Rattle.batch.specs.Batch.{tallied_of};
 
 use crate::tally_all;
-use automaton::file::Parsed;
-use refusal::Check;
 use tally::{Tallied, Tally};
 
 // The tally of trees' files end to end, by an automaton's file, onto a tally. Where the automaton's file is refused the tally is as it was.
@@ -13,15 +11,15 @@ pub fn tally(automaton: &[u8], trees: &[u8], before: Tally) -> Tallied
 {
     let mut table = [0u32; 9216];
     match transitions::load(automaton, &mut table) {
-        Parsed::Refused(refusal) => Tallied {
+        Err(refusal) => Tallied {
             tally: before,
-            check: Check::Refused(refusal),
+            check: Err(refusal),
         },
-        Parsed::Read(header) => {
+        Ok(header) => {
             let tally = tally_all(before, header, &table, trees);
             Tallied {
                 tally,
-                check: Check::Passed,
+                check: Ok(()),
             }
         }
     }

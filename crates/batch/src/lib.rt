@@ -12,8 +12,10 @@ ghost use Rattle.batch.specs.Batch.{file_blocks, first_length, ends_batch, rest_
 
 use crate::part::judge_part;
 use automaton::Header;
+use class_tables::Cache;
 use counting::count_all;
 use membership::Answer;
+use refusal::Refusal;
 use tally::{Outcome, Tally};
 use transitions::TransitionTable;
 
@@ -50,13 +52,13 @@ pub fn first_length(bytes: &[u8]) -> usize
 }
 
 // Whether an answer ends the batch: by a refusal of lines 1 to 4 the length of the file is not known.
-fn ends_batch(answer: Answer) -> bool
+fn ends_batch(answer: Result<Answer, Refusal>) -> bool
     ensures { result ≡ ends_batch answer }
 {
     match answer {
-        Answer::Accepted => false,
-        Answer::Other => false,
-        Answer::Refused(refusal) => refusal.number <= 4,
+        Ok(Answer::Accepted) => false,
+        Ok(Answer::Other) => false,
+        Err(refusal) => refusal.number <= 4,
     }
 }
 
@@ -76,27 +78,12 @@ pub fn tally_all(before: Tally, header: Header, table: &TransitionTable, bytes: 
     requires { WithinLimits header }
     ensures { (A : Automaton) → Headed A header table.now → result ≡ batch_of A before bytes.now }
 {
-    let mut counts = [1u32; 6];
-    let mut store = [0u32; 49152];
-    let mut maps = [0u16; 66560];
-    let mut cells = [0u64; 16384];
-    let mut hints = [0u16; 6144];
+    let mut cache = Cache::fresh();
     let mut answers = [0usize; 384];
-    counts[4] = 2048;
     let mut tally = before;
     let mut at: usize = 0;
     loop {
-        let part = judge_part(
-            header,
-            table,
-            back(bytes, at),
-            &mut answers,
-            &mut counts,
-            &mut store,
-            &mut maps,
-            &mut cells,
-            &mut hints,
-        );
+        let part = judge_part(header, table, back(bytes, at), &mut answers, &mut cache);
         let numbers = 3 * part.files;
         tally = count_all(tally, &answers[..numbers]);
         at += part.bytes;

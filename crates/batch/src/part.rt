@@ -1,10 +1,10 @@
 // The files at the front of a batch, judged one after another by a cache, their answers written to a lent slice, and to another their sums of growths.
-ghost use Rattle.std.specs.Prelude.{◌≡◌, true, not, ◌∷◌, [], ◌+◌, ◌*◌, ◌<◌, ◌≤◌, length, drop, set};
+ghost use Rattle.std.specs.Prelude.{ℕ, Some, None, ◌≡◌, true, not, ◌∷◌, [], ◌+◌, ◌*◌, ◌<◌, ◌≤◌, length, drop, set};
 ghost use Rattle.std.proofs.lemmas.List.Edits.{sets};
 ghost use Rattle.algorithms.specs.Automaton.{Automaton};
 ghost use Rattle.automaton.specs.File.{WithinLimits};
 ghost use Rattle.overloops.specs.Ready.{Headed};
-ghost use Rattle.class_tables.specs.Cache.{CachedIn};
+ghost use Rattle.class_tables.specs.Cache.{Cached};
 ghost use Rattle.membership.specs.Judged.{judged_by};
 ghost use Rattle.membership.specs.Grown.{growth_by};
 ghost use Rattle.batch.specs.Batch.{first_length, ends_batch};
@@ -12,9 +12,10 @@ ghost use Rattle.batch.specs.Answers.{answer_numbers, after_files, growths_after
 
 use crate::{back, ends_batch, first_length};
 use automaton::Header;
-use class_tables::{Cells, Counts, Hints, IndexMaps, Store};
+use class_tables::Cache;
 use judging::judge_with;
 use membership::Answer;
+use refusal::Refusal;
 use transitions::TransitionTable;
 
 // How many files were judged, how many bytes they are, and whether the batch goes on after them.
@@ -25,27 +26,27 @@ pub struct Judged {
     pub more: bool,
 }
 
-// The length of the file at a place; 0 where it is not whole.
-fn whole_length(bytes: &[u8], at: usize) -> usize
-    ensures { (0 < result → (result ≡ first_length (drop at bytes.now)) × (512 ≤ result) × (at + result ≤ length bytes.now))
-        × (result ≡ 0 → length (drop at bytes.now) < first_length (drop at bytes.now)) }
+// The length of the file at a place, where it is whole.
+fn whole_length(bytes: &[u8], at: usize) -> Option<usize>
+    ensures { ((n : ℕ) → result ≡ Some n → (n ≡ first_length (drop at bytes.now)) × (512 ≤ n) × (at + n ≤ length bytes.now))
+        × (result ≡ None → length (drop at bytes.now) < first_length (drop at bytes.now)) }
 {
     let rest = back(bytes, at);
     let length = first_length(rest);
     if rest.len() < length {
-        return 0;
+        return None;
     }
-    length
+    Some(length)
 }
 
 // An answer as three numbers.
-fn numbers_of(answer: Answer) -> [usize; 3]
+fn numbers_of(answer: Result<Answer, Refusal>) -> [usize; 3]
     ensures { result ≡ answer_numbers answer }
 {
     match answer {
-        Answer::Accepted => [0, 0, 0],
-        Answer::Other => [1, 0, 0],
-        Answer::Refused(refusal) => [2, refusal.number as usize, refusal.place],
+        Ok(Answer::Accepted) => [0, 0, 0],
+        Ok(Answer::Other) => [1, 0, 0],
+        Err(refusal) => [2, refusal.number as usize, refusal.place],
     }
 }
 
@@ -77,23 +78,17 @@ pub fn judge_one(
     at: usize,
     growths: &mut [usize],
     place: usize,
-    counts: &mut Counts,
-    store: &mut Store,
-    maps: &mut IndexMaps,
-    cells: &mut Cells,
-    hints: &mut Hints,
+    cache: &mut Cache,
 ) -> bool
     requires { WithinLimits header × (at + 3 ≤ length answers.old) }
     ensures { (length answers.new ≡ length answers.old) × (length growths.new ≡ length growths.old)
-        × ((A : Automaton) → Headed A header table.now
-        → CachedIn A counts.old store.old maps.old cells.old
-        → CachedIn A counts.new store.new maps.new cells.new
-        × (answers.new ≡ sets answers.old at (answer_numbers (judged_by A file.now)))
+        × ((A : Automaton) → Headed A header table.now → Cached A cache.old
+        → Cached A cache.new × (answers.new ≡ sets answers.old at (answer_numbers (judged_by A file.now)))
         × (result ≡ not (ends_batch (judged_by A file.now)))
         × (growths.new ≡ set growths.old place (growth_by A file.now))) }
 {
     let sums = place < growths.len();
-    let judged = judge_with(header, table, file, sums, counts, store, maps, cells, hints);
+    let judged = judge_with(header, table, file, sums, cache);
     let answer = judged.answer;
     let numbers = numbers_of(answer);
     put_numbers(answers, at, numbers[0], numbers[1], numbers[2]);
@@ -110,20 +105,14 @@ pub fn weigh_part(
     bytes: &[u8],
     answers: &mut [usize],
     growths: &mut [usize],
-    counts: &mut Counts,
-    store: &mut Store,
-    maps: &mut IndexMaps,
-    cells: &mut Cells,
-    hints: &mut Hints,
+    cache: &mut Cache,
 ) -> Judged
     requires { WithinLimits header }
     ensures { (3 * result.files ≤ length answers.new) × (length answers.new ≡ length answers.old)
         × (512 * result.files ≤ result.bytes) × (result.bytes ≤ length bytes.now)
         × (result.more ≡ true → Stopped bytes.now answers.old result)
-        × ((A : Automaton) → Headed A header table.now
-        → CachedIn A counts.old store.old maps.old cells.old
-        → CachedIn A counts.new store.new maps.new cells.new
-        × Part A bytes.now answers.old answers.new result
+        × ((A : Automaton) → Headed A header table.now → Cached A cache.old
+        → Cached A cache.new × Part A bytes.now answers.old answers.new result
         × (growths.new ≡ growths_after A result.files bytes.now growths.old)) × (result.bytes ≤ 4608 * result.files)
         × (length growths.new ≡ length growths.old)
         × (drop result.bytes bytes.now ≡ after_files result.files bytes.now) }
@@ -140,14 +129,13 @@ pub fn weigh_part(
                 more,
             };
         }
-        let length = whole_length(bytes, at);
-        if length == 0 {
+        let Some(length) = whole_length(bytes, at) else {
             return Judged {
                 files,
                 bytes: at,
                 more,
             };
-        }
+        };
         let end = at + length;
         more = judge_one(
             header,
@@ -157,11 +145,7 @@ pub fn weigh_part(
             3 * files,
             growths,
             files,
-            counts,
-            store,
-            maps,
-            cells,
-            hints,
+            cache,
         );
         files += 1;
         at = end;
@@ -179,32 +163,15 @@ pub fn judge_part(
     table: &TransitionTable,
     bytes: &[u8],
     answers: &mut [usize],
-    counts: &mut Counts,
-    store: &mut Store,
-    maps: &mut IndexMaps,
-    cells: &mut Cells,
-    hints: &mut Hints,
+    cache: &mut Cache,
 ) -> Judged
     requires { WithinLimits header }
     ensures { (3 * result.files ≤ length answers.new) × (length answers.new ≡ length answers.old)
         × (512 * result.files ≤ result.bytes) × (result.bytes ≤ length bytes.now)
         × (result.more ≡ true → Stopped bytes.now answers.old result)
-        × ((A : Automaton) → Headed A header table.now
-        → CachedIn A counts.old store.old maps.old cells.old
-        → CachedIn A counts.new store.new maps.new cells.new
-        × Part A bytes.now answers.old answers.new result) × (result.bytes ≤ 4608 * result.files) }
+        × ((A : Automaton) → Headed A header table.now → Cached A cache.old
+        → Cached A cache.new × Part A bytes.now answers.old answers.new result) × (result.bytes ≤ 4608 * result.files) }
 {
     let mut none = [0usize; 1];
-    weigh_part(
-        header,
-        table,
-        bytes,
-        answers,
-        &mut none[..0],
-        counts,
-        store,
-        maps,
-        cells,
-        hints,
-    )
+    weigh_part(header, table, bytes, answers, &mut none[..0], cache)
 }

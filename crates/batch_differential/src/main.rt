@@ -4,10 +4,9 @@
 #![tactic(auto)]
 
 use generated::families;
-use refusal::Check;
 use sampling::access::{byte, number, set_byte, set_number};
 use sampling::random::{chance, draw, seed};
-use sampling::report::{count, labelled, text};
+use sampling::report::{count, differences, judgements, labelled, text};
 use sampling::rules::Automaton;
 use search::{files, trees, walk};
 use tally::Tally;
@@ -113,8 +112,8 @@ fn agrees(automaton: &[u8], trees: &[u8], expected: &[usize]) -> bool {
     let tally = tallied.tally;
     let check = tallied.check;
     let read = match check {
-        Check::Passed => true,
-        Check::Refused(_) => false,
+        Ok(()) => true,
+        Err(_) => false,
     };
     read && tally.accepted as usize == number(expected, 0)
         && tally.other as usize == number(expected, 1)
@@ -175,30 +174,15 @@ fn run(counts: &mut [usize]) {
     }
 }
 
-fn line(label: &[u8], counts: &[usize], family: usize) {
-    let at = family % 8 * 3;
-    text(label);
-    labelled(b" accepted=", number(counts, at));
-    labelled(b" other=", number(counts, at + 1));
-    labelled(b" refused=", number(counts, at + 2));
-    text(b"\n");
-}
-
 fn print_families(counts: &[usize]) {
-    line(b"deterministic", counts, 0);
-    line(b"nondeterministic", counts, 1);
-    line(b"all places", counts, 2);
-    line(b"circling", counts, 3);
-    line(b"sided", counts, 4);
-    line(b"counting", counts, 5);
-    line(b"many rules", counts, 6);
-    line(b"few rules", counts, 7);
+    for family in 0..families::FAMILIES {
+        judgements(families::name(family), counts, 3 * family);
+    }
 }
 
 fn main() {
     let mut counts = [0usize; 25];
     run(&mut counts);
     print_families(&counts);
-    labelled(b"differences ", number(&counts, 24));
-    text(b"\n");
+    differences(number(&counts, 24));
 }

@@ -1,10 +1,9 @@
 // The engine beside the definition. An outcome is a number below 15 that tells the kind of the file, or 15 where the engine differs.
 use block_files::definition::LINE;
 use block_files::{definition, files};
-use blocks::Found;
 use model::Signature;
+use refusal::Refusal;
 use sampling::access::byte;
-use tree::file::ParsedTree;
 
 const SIGNATURE: Signature = Signature {
     symbols: 2,
@@ -25,15 +24,15 @@ fn front(table: &[u8], n: usize) -> &[u8] {
 
 // The outcome of a search for a wrong check: none (0), that of block 0 (1), that of a later one (2).
 pub fn check_outcome(file: &[u8]) -> usize {
-    let expected = definition::lowest_wrong(file);
-    let found = match blocks::first_bad_block(file) {
-        Found::At(b) => b % 65536 + 1,
-        Found::Nothing => 0,
-    };
-    if found != expected {
+    let found = blocks::first_bad_block(file);
+    if found != definition::lowest_wrong(file) {
         return 15;
     }
-    if found < 2 { found } else { 2 }
+    match found {
+        None => 0,
+        Some(0) => 1,
+        Some(_) => 2,
+    }
 }
 
 // What is to stand at a place of a table after so many bytes of the contents, from an offset on, were written to its front. Where the
@@ -81,10 +80,10 @@ fn join_outcome(file: &[u8]) -> usize {
 }
 
 // What the engine tells of a tree's file: the nodes, or a refusal as the definition tells it.
-fn told(parsed: ParsedTree) -> usize {
+fn told(parsed: Result<usize, Refusal>) -> usize {
     match parsed {
-        ParsedTree::Nodes(k) => k % 65536,
-        ParsedTree::Refused(refusal) => {
+        Ok(k) => k % 65536,
+        Err(refusal) => {
             let line = refusal.file as usize * 16 + refusal.number as usize;
             line * LINE + refusal.place % 65536
         }

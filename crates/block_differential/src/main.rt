@@ -7,7 +7,7 @@ mod compare;
 
 use block_files::files;
 use sampling::access::{byte, number, set_byte};
-use sampling::report::{count, labelled, text};
+use sampling::report::{count, row};
 
 // A file whose first nine blocks have bytes by chance and right checks.
 const NINE: usize = 3;
@@ -43,21 +43,12 @@ fn compare_files(counts: &mut [usize]) {
     }
 }
 
-// A line with some counts.
-fn line(label: &[u8], counts: &[usize], from: usize, to: usize) {
-    text(label);
-    for i in from..to {
-        labelled(b" ", number(counts, i));
-    }
-    text(b"\n");
-}
-
 fn print(counts: &[usize]) {
-    line(b"each bit: right, block 0 wrong, later:", counts, 48, 51);
-    line(b"blocks: right, block 0 wrong, later:", counts, 0, 3);
-    line(b"joined: 0 to 12 blocks:", counts, 16, 29);
-    line(b"trees: accepted, refused 1 to 12:", counts, 32, 45);
-    line(b"differences", counts, 64, 65);
+    row(b"each bit: right, block 0 wrong, later:", counts, 48, 51);
+    row(b"blocks: right, block 0 wrong, later:", counts, 0, 3);
+    row(b"joined: 0 to 12 blocks:", counts, 16, 29);
+    row(b"trees: accepted, refused 1 to 12:", counts, 32, 45);
+    row(b"differences", counts, 64, 65);
 }
 
 fn main() {

@@ -1,6 +1,6 @@
 // Document 01's blocks and the lines 1 to 6 of its refusals of a tree's file, written anew: a block is summed by columns of bytes, and
 // nothing here is the engine's.
-ghost use Rattle.std.specs.Prelude.{◌≤◌};
+ghost use Rattle.std.specs.Prelude.{◌<◌, ◌≤◌, IfSome};
 
 use sampling::access::byte;
 
@@ -52,17 +52,17 @@ pub fn check_of(file: &[u8], block: usize) -> usize
     (sum_of(file, 512 * b, 127) + b + 1) % 4294967296
 }
 
-// One more than the lowest block whose check is wrong; 0 where none is.
-pub fn lowest_wrong(file: &[u8]) -> usize
-    ensures { result ≤ 64 }
+// The lowest block whose check is wrong.
+pub fn lowest_wrong(file: &[u8]) -> Option<usize>
+    ensures { IfSome result (λ b. b < 64) }
 {
     let blocks = file.len() / 512 % 64;
     for b in 0..blocks {
         if sum_of(file, 512 * b + 508, 1) != check_of(file, b) {
-            return b + 1;
+            return Some(b);
         }
     }
-    0
+    None
 }
 
 // Where a byte of the contents stands: four bytes further for each check before it.
@@ -91,11 +91,10 @@ fn length_line(length: usize) -> usize {
 
 // Line 2.
 fn check_line(file: &[u8]) -> usize {
-    let wrong = lowest_wrong(file);
-    if wrong == 0 {
-        return 0;
+    match lowest_wrong(file) {
+        Some(b) => CHECK + b,
+        None => 0,
     }
-    CHECK + wrong - 1
 }
 
 // Lines 3 to 5, and line 6 at offset 1, of a header's first half and its number of nodes, in so many blocks.

@@ -1,9 +1,10 @@
 // Files by chance: of blocks before TREES, and of trees from there on. However a block was damaged, what matters is its contents and by how
 // much its check is off: words of one block that change places, or of which one gains what another loses, put no check off.
-use crate::chance::{pick, scattered};
+use crate::chance::pick;
 use crate::definition::{check_of, sum_of};
 use crate::trees;
 use sampling::access::set_byte;
+use sampling::random::scattered;
 
 const TREES: usize = 16000;
 

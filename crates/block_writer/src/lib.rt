@@ -7,14 +7,7 @@ ghost use Rattle.blocks.specs.FileOf.{blocks_needed, check_for, word_bytes, file
 ghost use Rattle.block_writer.specs.Written.{room_check};
 
 use blocks::wide;
-use refusal::{Check, Fault, Refusal, refused};
-
-// What a call that writes a file answers: its length, or the refusal.
-#[derive(Clone, Copy)]
-pub enum Written {
-    Bytes(usize),
-    Refused(Refusal),
-}
+use refusal::{Fault, Refusal, refused};
 
 // The byte at an offset, 0 past the end.
 fn byte_at(payload: &[u8], at: usize) -> u8
@@ -35,21 +28,21 @@ fn padded_word(payload: &[u8], at: usize) -> u32
 }
 
 // The check of block b of the payload's file.
+#[tactic(auto, unfolding(blocks::specs::Blocks::word_sum, blocks::specs::FileOf::check_for))]
 fn check_for(payload: &[u8], b: usize) -> u32
     requires { b < 18014398509481984 }
     ensures { result ≡ check_for payload.now b }
 {
     let start = 508 * b;
     let mut sum = std::num::wrapping_add_u32((b % 4294967296) as u32, 1);
-    let mut k = 0;
-    while k < 127 {
+    for k in 0..127 {
         sum = std::num::wrapping_add_u32(sum, padded_word(payload, start + 4 * k));
-        k += 1;
     }
     sum
 }
 
 // Byte k of a word, lowest first.
+#[tactic(auto, unfolding(blocks::specs::FileOf::word_bytes))]
 pub fn word_byte(word: u32, k: usize) -> u8
     requires { k < 4 }
     ensures { result ≡ slice_index (word_bytes word) k }
@@ -67,6 +60,7 @@ pub fn word_byte(word: u32, k: usize) -> u8
 }
 
 // Byte i of the file, where the check of its block is at hand if the byte is one of it.
+#[tactic(auto, unfolding(blocks::specs::FileOf::file_byte))]
 fn file_byte(payload: &[u8], check: u32, i: usize) -> u8
     requires { (i < 9223372036854775808) × (508 ≤ i % 512 → check ≡ check_for payload.now (i / 512)) }
     ensures { result ≡ file_byte payload.now i }
@@ -80,7 +74,7 @@ fn file_byte(payload: &[u8], check: u32, i: usize) -> u8
 }
 
 // Refusal 13, for the file of a payload of so many bytes.
-pub fn room_check(payload: usize, room: usize) -> Check
+pub fn room_check(payload: usize, room: usize) -> Result<(), Refusal>
     requires { payload ≤ 4608 }
     ensures { result ≡ room_check (512 * blocks_needed payload) room }
 {
@@ -88,7 +82,7 @@ pub fn room_check(payload: usize, room: usize) -> Check
     if room < needed {
         return refused(Fault::Buffer, 2, needed);
     }
-    Check::Passed
+    Ok(())
 }
 
 // Writes the file to the front of `out`, and returns its length.
@@ -98,13 +92,11 @@ pub fn write_file(payload: &[u8], out: &mut [u8]) -> usize
 {
     let len = 512 * ((payload.len() + 507) / 508);
     let mut check = 0;
-    let mut i = 0;
-    while i < len {
+    for i in 0..len {
         if i % 512 == 508 {
             check = check_for(payload, i / 512);
         }
         out[i] = file_byte(payload, check, i);
-        i += 1;
     }
     len
 }

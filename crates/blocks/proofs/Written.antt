@@ -4,7 +4,7 @@ use Rattle.std.proofs.Common.{◌≡◌, ℕ, zero, suc, ◌+◌, ◌-◌, ◌*�
 use lib.ListN.{length-replicate}
 use Rattle.blocks.specs.Blocks.{word_at, word_sum, block_check, check_wrong, content}
 use Rattle.blocks.specs.Search.{lowest}
-use Rattle.blocks.specs.declared.Found.TheVariants.{Nothing}
+use Rattle.std.specs.Prelude.{None}
 use Rattle.blocks.specs.FileOf.{blocks_needed, check_for, word_bytes, file_byte, listed, file_of}
 use Rattle.blocks.proofs.Laws.{content-length, content-at, find-nothing}
 
@@ -127,7 +127,7 @@ stored p b l =
     rw (first, at 1 (omega arith), at 2 (omega arith), at 3 (omega arith)) (word-bytes (check_for p b) (check-small p b))
 
 -- no check is wrong
-pub checks-right : (p : List ℕ) → lowest (check_wrong (file_of p)) (length (file_of p) / 512) ≡ Nothing
+pub checks-right : (p : List ℕ) → lowest (check_wrong (file_of p)) (length (file_of p) / 512) ≡ None
 unfolding check_wrong
 checks-right p =
     find-nothing (check_wrong (file_of p)) 0 (length (file_of p) / 512)

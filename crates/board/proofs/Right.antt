@@ -1,6 +1,7 @@
 -- Every row of the board is right: what is computed of its files is what the table says, by one equation over the table, and a law turns that
 -- into what a row says.
 -- Assumes nothing.
+use Rattle.std.proofs.Common.{Result, Ok, Err}
 use mathlib.Core.Path.{◌≡◌, refl, sym, ap, ◌∙◌}
 use mathlib.Core.Logic.{◌↔◌}
 use mathlib.Core.Bool.{Bool, true, false}
@@ -30,14 +31,12 @@ use Rattle.automaton.specs.File.{header_of, counts_check, sets_check, rules_chec
 use Rattle.automaton.specs.Payload.{payload_of}
 use Rattle.automaton.specs.Rules.{sort_place, sort_move, rule_at, misplaced, rule_check}
 use Rattle.automaton.specs.declared.Header.{Header}
-use Rattle.automaton.specs.declared.file.Parsed.{Parsed}
 use Rattle.transitions.specs.Transitions.{next_states, automaton_of}
 use Rattle.tree.specs.File.{nodes_of, read_tree, layout_check as tree_layout, body_check as tree_body}
 use Rattle.nodes.specs.Nodes.{tree_of, no_symbol, symbols_check, parts_from, shape_check, forest, depth_of, height_check, nodes_check}
 use Rattle.tree.specs.Payload.{payload_of as nodes_payload}
 use Rattle.nodes.specs.Preorder.{Writes}
 use Rattle.tree.proofs.Reading.{tree-read}
-use Rattle.tree.specs.declared.file.ParsedTree.{ParsedTree}
 use Rattle.membership.specs.Judged.{signature_of, accepted_if, judged_by, judged}
 use Rattle.membership.specs.Demand2.{Judges}
 use Rattle.membership.proofs.Proved.{judged-right}
@@ -50,6 +49,7 @@ use Rattle.emptiness.specs.declared.Quick.{Quick}
 use Rattle.emptiness.proofs.Planning.{bytes-length}
 use Rattle.board.specs.Files.{walker, rules_a, file_a, file_a+, file_i, file_j, letter}
 use Rattle.board.specs.Board.{Row, judges, surveys, seals, rows, planned, JudgesRight, SurveysRight, Right}
+use Rattle.refusal.specs.declared.Refusal.{Refusal}
 
 -- ---- what is computed of a row's files
 
@@ -60,24 +60,24 @@ data Seen : Type 0 where
   sealed-as : (computed stored : ℕ) → Seen
 
 -- the tree that is read, and whether it is accepted
-letter_seen : (h : Header) → ParsedTree → (w s : List ℕ) → Seen
-letter_seen h (ParsedTree.Refused r) w s = refused
-letter_seen h (ParsedTree.Nodes k) w s =
+letter_seen : (h : Header) → Result ℕ Refusal → (w s : List ℕ) → Seen
+letter_seen h (Err r) w s = refused
+letter_seen h (Ok k) w s =
     let t = tree_of h.branches (nodes_of k (content s)) in
     judged-as t (accepts? (automaton_of h (content w)) t)
 
-judging_seen : Parsed → (w s : List ℕ) → Seen
-judging_seen (Parsed.Refused r) w s = refused
-judging_seen (Parsed.Read h) w s = letter_seen h (read_tree (signature_of (automaton_of h (content w))) s) w s
+judging_seen : Result Header Refusal → (w s : List ℕ) → Seen
+judging_seen (Err r) w s = refused
+judging_seen (Ok h) w s = letter_seen h (read_tree (signature_of (automaton_of h (content w))) s) w s
 
 plan_of : Verdict → List ℕ
 plan_of (Found h p) = plan_bytes p
 plan_of (Open h) = []
 plan_of (Empty h) = []
 
-survey_seen : Parsed → (w : List ℕ) → Seen
-survey_seen (Parsed.Refused r) w = refused
-survey_seen (Parsed.Read h) w =
+survey_seen : Result Header Refusal → (w : List ℕ) → Seen
+survey_seen (Err r) w = refused
+survey_seen (Ok h) w =
     let A = automaton_of h (content w) in
     surveyed-as (survey_of (saturation_of A)) (plan_of (saturation_of A)) (clear_or (clear? A))
 
@@ -94,35 +94,35 @@ said (seals symbols check) = sealed-as check check
 
 -- ---- a judged tree
 
-judging-read : (p : Parsed) (w s : List ℕ) (t : Tree) (b : Bool) → judging_seen p w s ≡ judged-as t b
-    → (h : Header) × (p ≡ Parsed.Read h) × (letter_seen h (read_tree (signature_of (automaton_of h (content w))) s) w s ≡ judged-as t b)
+judging-read : (p : Result Header Refusal) (w s : List ℕ) (t : Tree) (b : Bool) → judging_seen p w s ≡ judged-as t b
+    → (h : Header) × (p ≡ Ok h) × (letter_seen h (read_tree (signature_of (automaton_of h (content w))) s) w s ≡ judged-as t b)
 unfolding judging_seen
-judging-read (Parsed.Refused r) w s t b e = clash (cc)
-judging-read (Parsed.Read h) w s t b e = (h, refl, e)
+judging-read (Err r) w s t b e = clash (cc)
+judging-read (Ok h) w s t b e = (h, refl, e)
 
-letter-nodes : (h : Header) (p : ParsedTree) (w s : List ℕ) (t : Tree) (b : Bool) → letter_seen h p w s ≡ judged-as t b
-    → (k : ℕ) × (p ≡ ParsedTree.Nodes k) × (tree_of h.branches (nodes_of k (content s)) ≡ t) × (accepts? (automaton_of h (content w)) t ≡ b)
+letter-nodes : (h : Header) (p : Result ℕ Refusal) (w s : List ℕ) (t : Tree) (b : Bool) → letter_seen h p w s ≡ judged-as t b
+    → (k : ℕ) × (p ≡ Ok k) × (tree_of h.branches (nodes_of k (content s)) ≡ t) × (accepts? (automaton_of h (content w)) t ≡ b)
 unfolding letter_seen
-letter-nodes h (ParsedTree.Refused r) w s t b e = clash (cc)
-letter-nodes h (ParsedTree.Nodes k) w s t b e =
+letter-nodes h (Err r) w s t b e = clash (cc)
+letter-nodes h (Ok k) w s t b e =
     let u = tree_of h.branches (nodes_of k (content s)) in
     let same : u ≡ t = cc in
     let answer : accepts? (automaton_of h (content w)) u ≡ b = cc in
     (k, refl, same, rw same at answer)
 
-answer-is : (w s : List ℕ) (h : Header) (k : ℕ) (t : Tree) (b : Bool) → parsed w ≡ Parsed.Read h → read_tree (signature_of (automaton_of h (content w))) s ≡ ParsedTree.Nodes k
-    → tree_of h.branches (nodes_of k (content s)) ≡ t → accepts? (automaton_of h (content w)) t ≡ b → judged w s ≡ accepted_if b
+answer-is : (w s : List ℕ) (h : Header) (k : ℕ) (t : Tree) (b : Bool) → parsed w ≡ Ok h → read_tree (signature_of (automaton_of h (content w))) s ≡ Ok k
+    → tree_of h.branches (nodes_of k (content s)) ≡ t → accepts? (automaton_of h (content w)) t ≡ b → judged w s ≡ Ok (accepted_if b)
 unfolding judged judged_by
 answer-is w s h k t b read letter_read same accepted = rw (read, letter_read, same, accepted)
 
 -- the two answers are the two sides of a test
-told-run : (b : Bool) (a : Answer) {X : Type 0} → a ≡ accepted_if b → (a ≡ Answer.Accepted) ↔ X → X ↔ T b
+told-run : (b : Bool) (a : Result Answer Refusal) {X : Type 0} → a ≡ Ok (accepted_if b) → (a ≡ Ok Answer.Accepted) ↔ X → X ↔ T b
 told-run true a e f = (λ x. tt, λ t. f.0 e)
-told-run false a e f = (λ x. let z : a ≡ Answer.Accepted = f.1 x in clash (cc), λ t. absurd t)
+told-run false a e f = (λ x. let z : a ≡ Ok Answer.Accepted = f.1 x in clash (cc), λ t. absurd t)
 
 -- a run of the one tree that a list writes
-run_is : (A : Automaton) (nodes : List ℕ) (t : Tree) (b : Bool) (a : Answer)
-    → Judges A nodes a → Writes (signature_of A) nodes t → a ≡ accepted_if b → Accepted A t ↔ T b
+run_is : (A : Automaton) (nodes : List ℕ) (t : Tree) (b : Bool) (a : Result Answer Refusal)
+    → Judges A nodes a → Writes (signature_of A) nodes t → a ≡ Ok (accepted_if b) → Accepted A t ↔ T b
 run_is A nodes t b a right written e = rw (right.one t written) (told-run b a e right.accepted)
 
 judges-right : (w s : List ℕ) (t : Tree) (b : Bool) → judging_seen (parsed w) w s ≡ judged-as t b → JudgesRight w s t b
@@ -152,21 +152,21 @@ plan-written (Found h p) buffer = ap (λ (n : ℕ). plan_bytes p ++ drop n buffe
 plan-written (Open h) buffer = refl
 plan-written (Empty h) buffer = refl
 
-survey-read : (p : Parsed) (w : List ℕ) (answer : Survey) (plan : List ℕ) (quick : Quick) → survey_seen p w ≡ surveyed-as answer plan quick
-    → (h : Header) × (p ≡ Parsed.Read h) × (survey_of (saturation_of (automaton_of h (content w))) ≡ answer)
+survey-read : (p : Result Header Refusal) (w : List ℕ) (answer : Survey) (plan : List ℕ) (quick : Quick) → survey_seen p w ≡ surveyed-as answer plan quick
+    → (h : Header) × (p ≡ Ok h) × (survey_of (saturation_of (automaton_of h (content w))) ≡ answer)
     × (plan_of (saturation_of (automaton_of h (content w))) ≡ plan) × (clear_or (clear? (automaton_of h (content w))) ≡ quick)
 unfolding survey_seen
-survey-read (Parsed.Refused r) w answer plan quick e = clash (cc)
-survey-read (Parsed.Read h) w answer plan quick e = (h, refl, (cc), (cc), (cc))
+survey-read (Err r) w answer plan quick e = clash (cc)
+survey-read (Ok h) w answer plan quick e = (h, refl, (cc), (cc), (cc))
 
-survey-as : (w : List ℕ) (h : Header) → parsed w ≡ Parsed.Read h → (buffer : List ℕ) → 195 ≤ length buffer
+survey-as : (w : List ℕ) (h : Header) → parsed w ≡ Ok h → (buffer : List ℕ) → 195 ≤ length buffer
     → surveyed w buffer ≡ planned (survey_of (saturation_of (automaton_of h (content w)))) (plan_of (saturation_of (automaton_of h (content w)))) buffer
 unfolding surveyed surveyed_by buffer_check
 survey-as w h read buffer long =
     let v = saturation_of (automaton_of h (content w)) in
-    rw (read, le-ltb (length buffer) 195 long) (ap (answered (survey_of v)) (plan-written v buffer))
+    rw (read, le-ltb (length buffer) 195 long) (ap (answered (Ok (survey_of v))) (plan-written v buffer))
 
-quick-as : (w : List ℕ) (h : Header) → parsed w ≡ Parsed.Read h → checked w ≡ clear_or (clear? (automaton_of h (content w)))
+quick-as : (w : List ℕ) (h : Header) → parsed w ≡ Ok h → checked w ≡ Ok (clear_or (clear? (automaton_of h (content w))))
 unfolding checked
 quick-as w h read = rw read refl
 
@@ -177,7 +177,7 @@ surveys-right w answer plan quick e =
     let h = f.0 in
     let survey : (buffer : List ℕ) → 195 ≤ length buffer → surveyed w buffer ≡ planned answer plan buffer =
     λ buffer long. rw (f.2, f.3) at (survey-as w h f.1 buffer long) in
-    let check : checked w ≡ quick = quick-as w h f.1 ∙ f.4 in
+    let check : checked w ≡ Ok quick = quick-as w h f.1 ∙ ap Ok f.4 in
     record {
       header = h;
       read = f.1;

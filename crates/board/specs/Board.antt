@@ -1,17 +1,15 @@
 -- The board of document 01: one table of the rows (a) to (k), and what it is for a row to be right, in terms of runs, and of trees of every
 -- size.
 -- Interface: `rows`, `Right`.
-use Rattle.std.specs.Prelude.{◌≡◌, ◌↔◌, Bool, true, false, List, [], ◌∷◌, ◌++◌, ℕ, ◌≤◌, T, length, drop}
+use Rattle.std.specs.Prelude.{◌≡◌, ◌↔◌, Bool, true, false, List, [], ◌∷◌, ◌++◌, ℕ, ◌≤◌, T, length, drop, Ok}
 use Rattle.model.specs.Trees.{Tree, leaf, node}
 use Rattle.algorithms.specs.Automaton.{Accepted}
 use Rattle.blocks.specs.Blocks.{word_at, block_check, content}
 use Rattle.automaton.specs.File.{parsed}
 use Rattle.automaton.specs.declared.Header.{Header}
-use Rattle.automaton.specs.declared.file.Parsed.{Parsed}
 use Rattle.transitions.specs.Transitions.{automaton_of}
 use Rattle.tree.specs.File.{nodes_of, read_tree}
 use Rattle.nodes.specs.Preorder.{Writes}
-use Rattle.tree.specs.declared.file.ParsedTree.{ParsedTree}
 use Rattle.membership.specs.Judged.{signature_of, accepted_if, judged}
 use Rattle.emptiness.specs.Surveyed.{Answered, answered, surveyed}
 use Rattle.emptiness.specs.Checked.{checked}
@@ -47,26 +45,26 @@ rows =
 -- a run from the root in an initial state to the root in a final one is there or not, as the row says
 pub record JudgesRight (w s : List ℕ) (t : Tree) (accepted : Bool) : Type 0 where
   pub header : Header
-  pub read : parsed w ≡ Parsed.Read header
+  pub read : parsed w ≡ Ok header
   pub nodes : ℕ
-  pub letter_read : read_tree (signature_of (automaton_of header (content w))) s ≡ ParsedTree.Nodes nodes
+  pub letter_read : read_tree (signature_of (automaton_of header (content w))) s ≡ Ok nodes
   pub writes : Writes (signature_of (automaton_of header (content w))) (nodes_of nodes (content s)) t
-  pub answer : judged w s ≡ accepted_if accepted
+  pub answer : judged w s ≡ Ok (accepted_if accepted)
   pub run : Accepted (automaton_of header (content w)) t ↔ T accepted
 
 -- the survey's answer, and a buffer that begins with the plan and is otherwise as it was
 abbrev pub planned : Survey → (plan buffer : List ℕ) → Answered
-planned answer plan buffer = answered answer (plan ++ drop (length plan) buffer)
+planned answer plan buffer = answered (Ok answer) (plan ++ drop (length plan) buffer)
 
 -- the automaton's file w reads; survey and quick check answer what the row says, for every buffer of 195 bytes or more; and so demand 3 holds
 -- of these answers, over trees of every size
 pub record SurveysRight (w : List ℕ) (answer : Survey) (plan : List ℕ) (quick : Quick) : Type 0 where
   pub header : Header
-  pub read : parsed w ≡ Parsed.Read header
+  pub read : parsed w ≡ Ok header
   pub survey_is : (buffer : List ℕ) → 195 ≤ length buffer → surveyed w buffer ≡ planned answer plan buffer
-  pub quick_is : checked w ≡ quick
+  pub quick_is : checked w ≡ Ok quick
   pub survey_right : (buffer : List ℕ) → 195 ≤ length buffer → Surveys (automaton_of header (content w)) buffer (planned answer plan buffer)
-  pub quick_right : Approximates (automaton_of header (content w)) quick
+  pub quick_right : Approximates (automaton_of header (content w)) (Ok quick)
 
 -- the check of block 0 is this number, and it stands in the four bytes after the content
 pub record SealsRight (s : List ℕ) (check : ℕ) : Type 0 where

@@ -20,7 +20,8 @@ use Rattle.algorithms.specs.Growth.{node_growth, own_growth, growths}
 use Rattle.algorithms.proofs.Grown.{growths-own, growths-leaf}
 use Rattle.overloops.proofs.Laws.{leaf-formed, leaf-grown}
 use Rattle.class_tables.specs.Classes.{rows_of, id_of, growth_in, TellsWord, Node, Same}
-use Rattle.class_tables.specs.Cache.{Right, classes, CachedIn, After}
+use Rattle.class_tables.specs.Cache.{Right, classes, CachedIn, After, AfterCall}
+use Rattle.class_tables.specs.declared.Cache.{Cache}
 use Rattle.class_tables.proofs.Laws.{node-tells}
 use Rattle.passes.specs.Told.{height_of, low_of}
 use Rattle.passes.specs.Held.{Held}
@@ -116,50 +117,50 @@ below-node A store σ x y l r hl hr =
 
 -- ---- a node more
 
-pub leaf-on : (A : Automaton) (sg : Signature) (σ w v : ℕ) (counts store maps cells leaves table s counts' store' maps' cells' leaves' table' : List ℕ) (st st' : Stack) (growth : ℕ)
-    → Proper A → Loaded A sg counts store maps cells leaves table s st growth → After A counts store counts' store' maps' cells'
-    → Leafed A (classes counts') store' leaves' → Right A (classes counts') store' σ 0 0 w → 0 < w → σ < sg.symbols → member sg.branches σ ≡ false → (height_of v ≡ 0) × (low_of v ≡ w)
-    → ((ws : List ℕ) → Held table st ws → Held table' st' (v ∷ ws)) → Loaded A sg counts' store' maps' cells' leaves' table' (σ ∷ s) st' growth
-leaf-on A sg σ w v counts store maps cells leaves table s counts' store' maps' cells' leaves' table' st st' growth proper k after leafed right some small alone word held =
+pub leaf-on : (A : Automaton) (sg : Signature) (σ w v : ℕ) (cache cache' : Cache) (leaves table s leaves' table' : List ℕ) (st st' : Stack) (growth : ℕ)
+    → Proper A → Loaded A sg cache leaves table s st growth → AfterCall A cache cache'
+    → Leafed A (classes cache'.counts) cache'.store leaves' → Right A (classes cache'.counts) cache'.store σ 0 0 w → 0 < w → σ < sg.symbols → member sg.branches σ ≡ false → (height_of v ≡ 0) × (low_of v ≡ w)
+    → ((ws : List ℕ) → Held table st ws → Held table' st' (v ∷ ws)) → Loaded A sg cache' leaves' table' (σ ∷ s) st' growth
+leaf-on A sg σ w v cache cache' leaves table s leaves' table' st st' growth proper k after leafed right some small alone word held =
     let known = right some in
     record {
       cached = after.cached;
       leafed = leafed;
       stacked =
-          rw (below-leaf A σ growth) at (passes.leaf-on (Classed A (classes counts) store) (Classed A (classes counts') store') sg σ v table s table' st st' k.stacked
-          (same_class A (classes counts) (classes counts') _ store store' after.same after.more)
-          (low-tells A (classes counts') store' s v w (leaf σ) word.1 known.0 (leaf-tells A store' σ w proper after.cached.blank known.1))
+          rw (below-leaf A σ growth) at (passes.leaf-on (Classed A (classes cache.counts) cache.store) (Classed A (classes cache'.counts) cache'.store) sg σ v table s table' st st' k.stacked
+          (same_class A (classes cache.counts) (classes cache'.counts) _ cache.store cache'.store after.same after.more)
+          (low-tells A (classes cache'.counts) cache'.store s v w (leaf σ) word.1 known.0 (leaf-tells A cache'.store σ w proper after.cached.blank known.1))
           small alone word.0 held);
     }
 
 -- the classes of the two trees on top
-pub known : {A : Automaton} {sg : Signature} {counts store maps cells leaves table s : List ℕ} {growth : ℕ} (st : Stack) → Loaded A sg counts store maps cells leaves table s st growth
-    → st.top + 1 < 128 → (id_of st.first < classes counts) × (id_of st.second < classes counts)
+pub known : {A : Automaton} {sg : Signature} {cache : Cache} {leaves table s : List ℕ} {growth : ℕ} (st : Stack) → Loaded A sg cache leaves table s st growth
+    → st.top + 1 < 128 → (id_of st.first < classes cache.counts) × (id_of st.second < classes cache.counts)
 known st k few = let t = passes.top st k.stacked few in (t.trees.tells_l.0, t.trees.tells_r.0)
 
-pub branch-on : (A : Automaton) (sg : Signature) (σ l r w v h : ℕ) (counts store maps cells leaves table s counts' store' maps' cells' table' : List ℕ) (st st' : Stack) (growth sum : ℕ)
-    → Loaded A sg counts store maps cells leaves table s st growth → st.top + 1 < 128
-    → After A counts store counts' store' maps' cells' → l ≡ id_of st.first
-    → r ≡ id_of st.second → Right A (classes counts') store' σ l r w → 0 < w → σ < sg.symbols
+pub branch-on : (A : Automaton) (sg : Signature) (σ l r w v h : ℕ) (cache cache' : Cache) (leaves table s table' : List ℕ) (st st' : Stack) (growth sum : ℕ)
+    → Loaded A sg cache leaves table s st growth → st.top + 1 < 128
+    → AfterCall A cache cache' → l ≡ id_of st.first
+    → r ≡ id_of st.second → Right A (classes cache'.counts) cache'.store σ l r w → 0 < w → σ < sg.symbols
     → member sg.branches σ ≡ true → (height_of v ≡ h) × (low_of v ≡ w) → h ≡ max (height_of st.first) (height_of st.second) + 1 → h ≤ 64
     → ((x y : ℕ) (ws : List ℕ) → Held table st (x ∷ y ∷ ws) → Held table' st' (v ∷ ws))
     → sum ≡ growth + (growth_in Side.Left st.first + growth_in Side.Right st.second)
-    → Loaded A sg counts' store' maps' cells' leaves table' (σ ∷ s) st' sum
-branch-on A sg σ l r w v h counts store maps cells leaves table s counts' store' maps' cells' table' st st' growth sum k few after el er right some small branch word over low held grown =
+    → Loaded A sg cache' leaves table' (σ ∷ s) st' sum
+branch-on A sg σ l r w v h cache cache' leaves table s table' st st' growth sum k few after el er right some small branch word over low held grown =
     let t = passes.top st k.stacked few in
-    let known : Right A (classes counts') store' σ (id_of st.first) (id_of st.second) w = rw (← el, ← er) right in
+    let known : Right A (classes cache'.counts) cache'.store σ (id_of st.first) (id_of st.second) w = rw (← el, ← er) right in
     let p = t.trees in
-    let x = same-tells A (classes counts) (classes counts') store store' after.same after.more st.first p.l p.tells_l in
-    let y = same-tells A (classes counts) (classes counts') store store' after.same after.more st.second p.r p.tells_r in
+    let x = same-tells A (classes cache.counts) (classes cache'.counts) cache.store cache'.store after.same after.more st.first p.l p.tells_l in
+    let y = same-tells A (classes cache.counts) (classes cache'.counts) cache.store cache'.store after.same after.more st.second p.r p.tells_r in
     let total : below_growths A (node σ p.l p.r) + p.total-rest ≡ sum =
-    omega (arith, grown, p.total-is, below-node A store σ st.first st.second p.l p.r p.tells_l.1 p.tells_r.1) in
+    omega (arith, grown, p.total-is, below-node A cache.store σ st.first st.second p.l p.r p.tells_l.1 p.tells_r.1) in
     record {
       cached = after.cached;
-      leafed = leaves-stay A counts store counts' store' maps' cells' leaves after k.cached.some k.leafed;
+      leafed = leaves-stay A cache.counts cache.store cache'.counts cache'.store cache'.maps cache'.cells leaves after k.cached.some k.leafed;
       stacked =
-          rw total at (passes.branch-on (Classed A (classes counts) store) (Classed A (classes counts') store') sg σ v h table s table' st st' t k.stacked.below
-          (same_class A (classes counts) (classes counts') _ store store' after.same after.more)
-          (low-tells A (classes counts') store' p.rest v w (node σ p.l p.r) word.1 (known some).0
-          (node-tells A store' σ (id_of st.first) (id_of st.second) w p.l p.r (known some).1 x.1.0 y.1.0))
+          rw total at (passes.branch-on (Classed A (classes cache.counts) cache.store) (Classed A (classes cache'.counts) cache'.store) sg σ v h table s table' st st' t k.stacked.below
+          (same_class A (classes cache.counts) (classes cache'.counts) _ cache.store cache'.store after.same after.more)
+          (low-tells A (classes cache'.counts) cache'.store p.rest v w (node σ p.l p.r) word.1 (known some).0
+          (node-tells A cache'.store σ (id_of st.first) (id_of st.second) w p.l p.r (known some).1 x.1.0 y.1.0))
           small branch word.0 over low held);
     }

@@ -1,5 +1,6 @@
 -- What the words of the stack tell of a tree: its class, and the growths of closing at its root. And what the pass finds of the list.
 -- Interface: `Named`, `Classed`, `below_growths`, `Rooted`, `PassedRight`, `PassedFew`, `Weighs`.
+use Rattle.std.proofs.Common.{Option, Some, None}
 use Rattle.std.specs.Prelude.{ℕ, ◌+◌, ◌<◌, ◌≤◌, ◌≡◌, true, false, List}
 use Rattle.model.specs.Trees.{Tree, leaf, node}
 use Rattle.model.specs.declared.Side.{Side}
@@ -37,17 +38,17 @@ pub record Rooted (A : Automaton) (sg : Signature) (count : ℕ) (store s : List
   pub named_r : Named A count store y r
   pub grown : growth ≡ below_growths A (node σ l r)
 
--- what the pass found of a list: the classes of the parts of a tree that it writes, or that it writes a leaf; Off is no answer
-abbrev pub PassedRight : Automaton → Signature → (count : ℕ) (store s : List ℕ) → Passed → Type 0
-PassedRight A sg count store s (Passed.Parts x y growth) = Rooted A sg count store s x y growth
-PassedRight A sg count store s (Passed.Leaf) = (σ : ℕ) × Writes sg s (leaf σ)
-PassedRight A sg count store s (Passed.Off) = Unit {0}
+-- what the pass found of a list: the classes of the parts of a tree that it writes, or that it writes a leaf; none is no answer
+abbrev pub PassedRight : Automaton → Signature → (count : ℕ) (store s : List ℕ) → Option Passed → Type 0
+PassedRight A sg count store s (Some (Passed.Parts x y growth)) = Rooted A sg count store s x y growth
+PassedRight A sg count store s (Some Passed.Leaf) = (σ : ℕ) × Writes sg s (leaf σ)
+PassedRight A sg count store s None = Unit {0}
 
 -- the sum is at most n
-abbrev pub PassedFew : (n : ℕ) → Passed → Type 0
-PassedFew n (Passed.Parts x y growth) = growth ≤ n
-PassedFew n (Passed.Leaf) = Unit {0}
-PassedFew n (Passed.Off) = Unit {0}
+abbrev pub PassedFew : (n : ℕ) → Option Passed → Type 0
+PassedFew n (Some (Passed.Parts x y growth)) = growth ≤ n
+PassedFew n (Some Passed.Leaf) = Unit {0}
+PassedFew n None = Unit {0}
 
 -- the list s writes a tree that the automaton accepts, or one that it does not, and the growths at the tree's nodes come to a number
 abbrev pub Weighs : Automaton → Signature → (s : List ℕ) → Verdict → (growth : ℕ) → Type 0

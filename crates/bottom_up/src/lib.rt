@@ -4,7 +4,7 @@
 
 mod steps;
 
-ghost use Rattle.std.specs.Prelude.{◌≡◌, List, ◌∷◌, ℕ, ◌+◌, ◌<◌, ◌≤◌, length, get_or};
+ghost use Rattle.std.specs.Prelude.{Some, ◌≡◌, List, ◌∷◌, ℕ, ◌+◌, ◌<◌, ◌≤◌, length, get_or};
 ghost use Rattle.model.specs.Trees.{Tree, leaf, node};
 ghost use Rattle.algorithms.specs.Automaton.{Automaton};
 ghost use Rattle.algorithms.specs.Overloops.{overloops, accepts?};
@@ -14,55 +14,55 @@ ghost use Rattle.automaton.specs.File.{signature_in};
 ghost use Rattle.overloops.specs.Tables.{Tabled};
 ghost use Rattle.overloops.specs.Ready.{Headed};
 ghost use Rattle.nodes.specs.Preorder.{Writes};
-ghost use Rattle.class_tables.specs.Cache.{classes, CachedIn};
+ghost use Rattle.class_tables.specs.Cache.{classes, Cached};
+ghost use Rattle.class_tables.specs.declared.Cache.{Cache};
 ghost use Rattle.bottom_up.specs.Told.{below_growths, PassedRight, PassedFew, Weighs};
 ghost use Rattle.bottom_up.specs.Steps.{Loaded};
 
-use crate::steps::{Step, id, node_step};
+use crate::steps::{id, node_step};
 use algorithms::is_branch;
 use automaton::Header;
-use class_tables::{Cells, Counts, Hints, IndexMaps, Store, class_rows, growth_of};
+use class_tables::{Cache, Store, class_rows, growth_of};
 use model::{Place, Side, Symbol};
-use nodes::reader::{Here, read_at};
+use nodes::reader::read_at;
 use overloops::{close_leaf, close_node};
 use passes::{Stack, Verdict, height_over};
 use relation::Relation;
 use transitions::TransitionTable;
 
-// What the pass found: the classes of the root's parts, and the sum of the growths below the root; that the root is a leaf, and all; or nothing.
+// What the pass found: the classes of the root's parts, and the sum of the growths below the root; or that the root is a leaf, and all.
 #[derive(Clone, Copy)]
 enum Passed {
     Parts(u32, u32, u32),
     Leaf,
-    Off,
 }
 
 // The end of the pass, at the root: the growths at the roots of its parts are added.
-fn ended(header: Header, symbol: Symbol, stack: Stack, growth: u32) -> Passed
+fn ended(header: Header, symbol: Symbol, stack: Stack, growth: u32) -> Option<Passed>
     requires { growth ≤ 8388608 }
-    ensures { ((A : Automaton) (counts store maps cells leaves words s : List ℕ)
-        → Loaded A (signature_in header) counts store maps cells leaves words s stack growth
-        → PassedRight A (signature_in header) (classes counts) store (symbol.0 ∷ s) result) × PassedFew (growth + 2047) result }
+    ensures { ((A : Automaton) (cache : Cache) (leaves words s : List ℕ)
+        → Loaded A (signature_in header) cache leaves words s stack growth
+        → PassedRight A (signature_in header) (classes cache.counts) cache.store (symbol.0 ∷ s) result) × PassedFew (growth + 2047) result }
 {
     if header.symbols <= symbol.0 {
-        return Passed::Off;
+        return None;
     }
     let top = stack.top;
     if is_branch(header.branches, symbol) {
         if top != 126 {
-            return Passed::Off;
+            return None;
         }
         let first = stack.first;
         let second = stack.second;
         if 64 < height_over(first, second) {
-            return Passed::Off;
+            return None;
         }
-        return Passed::Parts(id(first), id(second), growth + growth_of(first, second));
+        return Some(Passed::Parts(id(first), id(second), growth + growth_of(first, second)));
     }
     if top != 128 {
-        return Passed::Off;
+        return None;
     }
-    Passed::Leaf
+    Some(Passed::Leaf)
 }
 
 // The pass over a node list, from its end, each node read by a reader.
@@ -70,17 +70,11 @@ fn pass(
     symbols: &[u8],
     header: Header,
     table: &TransitionTable,
-    counts: &mut Counts,
-    store: &mut Store,
-    maps: &mut IndexMaps,
-    cells: &mut Cells,
-    hints: &mut Hints,
-) -> Passed
+    cache: &mut Cache,
+) -> Option<Passed>
     requires { (0 < length symbols.now) × (length symbols.now ≤ 4096) × (header.states ≤ 24) × (header.symbols ≤ 32) }
-    ensures { ((A : Automaton) → Tabled A header.states table.now
-        → CachedIn A counts.old store.old maps.old cells.old
-        → CachedIn A counts.new store.new maps.new cells.new
-        × PassedRight A (signature_in header) (classes counts.new) store.new symbols.now result) × PassedFew 8388608 result }
+    ensures { ((A : Automaton) → Tabled A header.states table.now → Cached A cache.old
+        → Cached A cache.new × PassedRight A (signature_in header) (classes cache.new.counts) cache.new.store symbols.now result) × PassedFew 8388608 result }
 {
     let mut words = [0u64; 128];
     let mut leaves = [0u32; 32];
@@ -90,13 +84,9 @@ fn pass(
         second: 0,
     };
     let mut growth = 0u32;
-    let mut at = symbols.len();
-    while 1 < at {
-        at -= 1;
-        let Here::Node(symbol) = read_at(symbols, at) else {
-            return Passed::Off;
-        };
-        match node_step(
+    for at in (1..symbols.len()).rev() {
+        let symbol = read_at(symbols, at)?;
+        let (next, sum) = node_step(
             header,
             table,
             symbol,
@@ -104,18 +94,10 @@ fn pass(
             growth,
             &mut words,
             &mut leaves,
-            counts,
-            store,
-            maps,
-            cells,
-            hints,
-        ) {
-            Step::On(next, sum) => {
-                stack = next;
-                growth = sum;
-            }
-            Step::Off => return Passed::Off,
-        }
+            cache,
+        )?;
+        stack = next;
+        growth = sum;
     }
     ended(header, Symbol(symbols[0]), stack, growth)
 }
@@ -197,9 +179,9 @@ fn concluded(
     store: &Store,
     passed: Passed,
 ) -> Weighed
-    requires { (header.states ≤ 24) × PassedFew 8388608 passed }
+    requires { (header.states ≤ 24) × PassedFew 8388608 (Some passed) }
     ensures { (A : Automaton) (count : ℕ) (s : List ℕ) → Headed A header table.now → symbol.0 ≡ get_or s 0 0
-        → PassedRight A (signature_in header) count store.now s passed → Weighs A (signature_in header) s result.verdict result.growth }
+        → PassedRight A (signature_in header) count store.now s (Some passed) → Weighs A (signature_in header) s result.verdict result.growth }
 {
     if 31 < symbol.0 {
         return unknown();
@@ -222,7 +204,6 @@ fn concluded(
             )
         }
         Passed::Leaf => leaf_weighed(header, table, symbol),
-        Passed::Off => unknown(),
     }
 }
 
@@ -231,19 +212,15 @@ pub fn judge_nodes(
     symbols: &[u8],
     header: Header,
     table: &TransitionTable,
-    counts: &mut Counts,
-    store: &mut Store,
-    maps: &mut IndexMaps,
-    cells: &mut Cells,
-    hints: &mut Hints,
+    cache: &mut Cache,
 ) -> Weighed
     requires { (0 < length symbols.now) × (length symbols.now ≤ 4096) × (header.states ≤ 24) × (header.symbols ≤ 32) }
-    ensures { (A : Automaton) → Headed A header table.now
-        → CachedIn A counts.old store.old maps.old cells.old
-        → CachedIn A counts.new store.new maps.new cells.new
-        × Weighs A (signature_in header) symbols.now result.verdict result.growth }
+    ensures { (A : Automaton) → Headed A header table.now → Cached A cache.old
+        → Cached A cache.new × Weighs A (signature_in header) symbols.now result.verdict result.growth }
 {
     let symbol = Symbol(symbols[0]);
-    let passed = pass(symbols, header, table, counts, store, maps, cells, hints);
-    concluded(symbol, header, table, store, passed)
+    match pass(symbols, header, table, cache) {
+        Some(passed) => concluded(symbol, header, table, &cache.store, passed),
+        None => unknown(),
+    }
 }

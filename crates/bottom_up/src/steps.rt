@@ -6,12 +6,12 @@ ghost use Rattle.model.specs.declared.Signature.{Signature};
 ghost use Rattle.automaton.specs.File.{signature_in};
 ghost use Rattle.overloops.specs.Tables.{Tabled};
 ghost use Rattle.class_tables.specs.Classes.{id_of};
-ghost use Rattle.class_tables.specs.Cache.{Right, classes, CachedIn, After};
+ghost use Rattle.class_tables.specs.Cache.{Right, classes, Cached, AfterCall};
 ghost use Rattle.bottom_up.specs.Steps.{Leafed, Loaded, Stepped, StepFew};
 
 use algorithms::is_branch;
 use automaton::Header;
-use class_tables::{Cells, Counts, Hints, IndexMaps, Store, growth_of};
+use class_tables::{Cache, growth_of};
 use determinization::{leaf_word, node_word};
 use model::Symbol;
 use passes::{Stack, height_over, merge, packed, push};
@@ -24,13 +24,6 @@ pub fn id(word: u64) -> u32
     (word % 1024) as u32
 }
 
-// What a step of the pass gives: the stack and the sum after the node; or that the pass is off.
-#[derive(Clone, Copy)]
-pub enum Step {
-    On(Stack, u32),
-    Off,
-}
-
 // The words of the leaves that this pass met, by symbol; 0 for one that it did not.
 pub type LeafWords = [u32; 32];
 
@@ -40,26 +33,20 @@ fn leaf_met(
     states: usize,
     symbol: Symbol,
     leaves: &mut LeafWords,
-    counts: &mut Counts,
-    store: &mut Store,
-    maps: &mut IndexMaps,
-    cells: &mut Cells,
-    hints: &mut Hints,
+    cache: &mut Cache,
 ) -> u32
     requires { (states ≤ 24) × (symbol.0 < 32) }
-    ensures { (A : Automaton) → Tabled A states table.now
-        → CachedIn A counts.old store.old maps.old cells.old
-        → Leafed A (classes counts.old) store.old leaves.old
-        → After A counts.old store.old counts.new store.new maps.new cells.new
-        × Leafed A (classes counts.new) store.new leaves.new
-        × Right A (classes counts.new) store.new symbol.0 0 0 result }
+    ensures { (A : Automaton) → Tabled A states table.now → Cached A cache.old → Leafed A (classes cache.old.counts) cache.old.store leaves.old
+        → AfterCall A cache.old cache.new
+        × Leafed A (classes cache.new.counts) cache.new.store leaves.new
+        × Right A (classes cache.new.counts) cache.new.store symbol.0 0 0 result }
 {
     let at = symbol.0 as usize;
     let met = leaves[at];
     if met != 0 {
         return met;
     }
-    let word = leaf_word(table, states, symbol, counts, store, maps, cells, hints);
+    let word = leaf_word(table, states, symbol, cache);
     leaves[at] = word;
     word
 }
@@ -73,32 +60,26 @@ fn leaf_step(
     growth: u32,
     words: &mut [u64; 128],
     leaves: &mut LeafWords,
-    counts: &mut Counts,
-    store: &mut Store,
-    maps: &mut IndexMaps,
-    cells: &mut Cells,
-    hints: &mut Hints,
-) -> Step
+    cache: &mut Cache,
+) -> Option<(Stack, u32)>
     requires { (states ≤ 24) × (symbol.0 < 32) }
     ensures { ((A : Automaton) (sg : Signature) (s : List ℕ) → Tabled A states table.now → symbol.0 < sg.symbols
         → member sg.branches symbol.0 ≡ false
-        → Loaded A sg counts.old store.old maps.old cells.old leaves.old words.old s stack growth
-        → Stepped A sg counts.new store.new maps.new cells.new leaves.new words.new (symbol.0 ∷ s) result)
+        → Loaded A sg cache.old leaves.old words.old s stack growth
+        → Stepped A sg cache.new leaves.new words.new (symbol.0 ∷ s) result)
         × StepFew (growth + 2047) result }
 {
     if stack.top == 0 {
-        return Step::Off;
+        return None;
     }
     if 128 < stack.top {
-        return Step::Off;
+        return None;
     }
-    let word = leaf_met(
-        table, states, symbol, leaves, counts, store, maps, cells, hints,
-    );
+    let word = leaf_met(table, states, symbol, leaves, cache);
     if word == 0 {
-        return Step::Off;
+        return None;
     }
-    Step::On(push(words, stack, packed(0, word)), growth)
+    Some((push(words, stack, packed(0, word)), growth))
 }
 
 // A branch over the two trees on top: it adds the growths at their roots.
@@ -109,45 +90,30 @@ fn branch_step(
     stack: Stack,
     growth: u32,
     words: &mut [u64; 128],
-    counts: &mut Counts,
-    store: &mut Store,
-    maps: &mut IndexMaps,
-    cells: &mut Cells,
-    hints: &mut Hints,
-) -> Step
+    cache: &mut Cache,
+) -> Option<(Stack, u32)>
     requires { (states ≤ 24) × (symbol.0 < 32) × (growth ≤ 8388608) }
     ensures { ((A : Automaton) (sg : Signature) (leaves s : List ℕ) → Tabled A states table.now → symbol.0 < sg.symbols
         → member sg.branches symbol.0 ≡ true
-        → Loaded A sg counts.old store.old maps.old cells.old leaves words.old s stack growth
-        → Stepped A sg counts.new store.new maps.new cells.new leaves words.new (symbol.0 ∷ s) result)
+        → Loaded A sg cache.old leaves words.old s stack growth
+        → Stepped A sg cache.new leaves words.new (symbol.0 ∷ s) result)
         × StepFew (growth + 2047) result }
 {
     if 126 < stack.top {
-        return Step::Off;
+        return None;
     }
     let first = stack.first;
     let second = stack.second;
     let height = height_over(first, second);
     if 64 < height {
-        return Step::Off;
+        return None;
     }
     let sum = growth + growth_of(first, second);
-    let word = node_word(
-        table,
-        states,
-        symbol,
-        id(first),
-        id(second),
-        counts,
-        store,
-        maps,
-        cells,
-        hints,
-    );
+    let word = node_word(table, states, symbol, id(first), id(second), cache);
     if word == 0 {
-        return Step::Off;
+        return None;
     }
-    Step::On(merge(words, stack, packed(height, word)), sum)
+    Some((merge(words, stack, packed(height, word)), sum))
 }
 
 // A node: off where its symbol is none of the signature's.
@@ -159,29 +125,21 @@ pub fn node_step(
     growth: u32,
     words: &mut [u64; 128],
     leaves: &mut LeafWords,
-    counts: &mut Counts,
-    store: &mut Store,
-    maps: &mut IndexMaps,
-    cells: &mut Cells,
-    hints: &mut Hints,
-) -> Step
+    cache: &mut Cache,
+) -> Option<(Stack, u32)>
     requires { (header.states ≤ 24) × (header.symbols ≤ 32) × (growth ≤ 8388608) }
     ensures { ((A : Automaton) (s : List ℕ) → Tabled A header.states table.now
-        → Loaded A (signature_in header) counts.old store.old maps.old cells.old leaves.old words.old s stack growth
-        → Stepped A (signature_in header) counts.new store.new maps.new cells.new leaves.new words.new (symbol.0 ∷ s) result)
+        → Loaded A (signature_in header) cache.old leaves.old words.old s stack growth
+        → Stepped A (signature_in header) cache.new leaves.new words.new (symbol.0 ∷ s) result)
         × StepFew (growth + 2047) result }
 {
     if header.symbols <= symbol.0 {
-        return Step::Off;
+        return None;
     }
     let states = header.states as usize;
     if is_branch(header.branches, symbol) {
-        branch_step(
-            table, states, symbol, stack, growth, words, counts, store, maps, cells, hints,
-        )
+        branch_step(table, states, symbol, stack, growth, words, cache)
     } else {
-        leaf_step(
-            table, states, symbol, stack, growth, words, leaves, counts, store, maps, cells, hints,
-        )
+        leaf_step(table, states, symbol, stack, growth, words, leaves, cache)
     }
 }

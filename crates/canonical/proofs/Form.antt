@@ -1,4 +1,5 @@
 -- The rules that remain, and the file that holds them: it reads back, and its spread rules are the rules that it holds. Assumes nothing.
+use Rattle.std.proofs.Common.{Option, Some, None, Ok}
 use Prim.Native.Nat.{ℕ, zero, suc, ◌*◌, ◌<◌, ◌≤◌}
 use mathlib.Core.Path.{◌≡◌, refl, sym, subst, ◌∙◌}
 use mathlib.Core.Bool.{Bool, false}
@@ -12,15 +13,12 @@ use Rattle.model.specs.declared.Move.{Move}
 use Rattle.model.specs.Lists.{◌∈◌}
 use Rattle.model.proofs.ListLaws.{nth-lt, nth-of-lt, nth-mem, mem-nth, nth-get_d, nth-map}
 use Rattle.blocks.specs.Blocks.{content}
-use Rattle.refusal.specs.declared.Check.TheVariants.{Passed}
 use Rattle.refusal.proofs.Passed.{clash, count-passes}
 use Rattle.automaton.specs.File.{format, counts_check, sets_check, parsed}
 use Rattle.automaton.specs.Rules.{rule_at, misplaced_move, misplaced}
 use Rattle.automaton.specs.declared.Header.{Header}
 use Rattle.automaton.specs.declared.Rule.{Rule}
 use Rattle.automaton.specs.declared.Scope.{Scope}
-use Rattle.automaton.specs.declared.file.Parsed.{Parsed}
-use Rattle.automaton.specs.declared.rules.RuleBytes.{RuleBytes}
 use Rattle.automaton.proofs.Passed.{counts-passed, rule-in, file-read}
 use Rattle.automaton_writer.specs.ReadsBack.{Fits, FitsEach, ReadsBack}
 use Rattle.automaton_writer.proofs.Reading.{reads_back}
@@ -32,9 +30,9 @@ use Rattle.canonical.specs.Canonical.{remaining, canonical_header, canonical_fil
 
 -- ---- how many there are
 
-spread-few : (bytes : RuleBytes) → length (spread bytes) ≤ 3
-spread-few RuleBytes.Unknown = omega arith
-spread-few (RuleBytes.Known r) = by r.scope
+spread-few : (bytes : Option Rule) → length (spread bytes) ≤ 3
+spread-few None = omega arith
+spread-few (Some r) = by r.scope
   where
     by : (t : Scope) → length (map (at_place r) (places_of t)) ≤ 3
     by (Scope.Only τ) = omega arith
@@ -68,7 +66,7 @@ placed_same : (branches σ σ' : ℕ) (t t' : Scope) (μ μ' : Move) → σ ≡ 
     → misplaced_move (member branches σ') t' μ' ≡ false → misplaced_move (member branches σ) t μ ≡ false
 placed_same branches σ σ' t t' μ μ' e f g p = rw (e, f, g) p
 
-module _ (s : List ℕ) (h : Header) (e : parsed s ≡ Parsed.Read h) where
+module _ (s : List ℕ) (h : Header) (e : parsed s ≡ Ok h) where
   spread-fits : (r : Rule) → r ∈ spread_rules h (content s) → Fits h r
   unfolding misplaced
   spread-fits r m =
@@ -96,26 +94,26 @@ fits_each h n (r ∷ rules) each =
     let f = each r (Memᴰ.head refl) in
     (record { symbol = f.symbol; state = f.state; next = f.next; placed = f.placed }, fits_each h n rules (λ x m. each x (Memᴰ.tail m)))
 
-counts-pass : (h : Header) (n : ℕ) → counts_check h ≡ Passed → n ≤ 512 → counts_check (canonical_header h n) ≡ Passed
+counts-pass : (h : Header) (n : ℕ) → counts_check h ≡ Ok tt → n ≤ 512 → counts_check (canonical_header h n) ≡ Ok tt
 unfolding counts_check
 counts-pass h n e few =
     let c = counts-passed h e in
     rw (c.states, c.symbols, count-passes format n 0 512 4 (omega arith) few)
 
-sets-pass : (h : Header) (n : ℕ) → sets_check h ≡ Passed → sets_check (canonical_header h n) ≡ Passed
+sets-pass : (h : Header) (n : ℕ) → sets_check h ≡ Ok tt → sets_check (canonical_header h n) ≡ Ok tt
 unfolding sets_check
 sets-pass h n e = e
 
 -- ---- what the file of rules that are each at one place reads as
 
 -- a rule of the list, by its place in it
-mem_index : (rules : List Rule) (r : Rule) → r ∈ rules → (i : ℕ) × (i < length rules) × (get_or (map RuleBytes.Known rules) i RuleBytes.Unknown ≡ RuleBytes.Known r)
-mem_index rules r m = let k = mem-nth m in (k.0, nth-lt k.1, nth-get_d RuleBytes.Unknown (nth-map RuleBytes.Known k.1))
+mem_index : (rules : List Rule) (r : Rule) → r ∈ rules → (i : ℕ) × (i < length rules) × (get_or (map Some rules) i None ≡ Some r)
+mem_index rules r m = let k = mem-nth m in (k.0, nth-lt k.1, nth-get_d None (nth-map Some k.1))
 
-index-mem : (rules : List Rule) (r : Rule) (i : ℕ) → i < length rules → get_or (map RuleBytes.Known rules) i RuleBytes.Unknown ≡ RuleBytes.Known r → r ∈ rules
+index-mem : (rules : List Rule) (r : Rule) (i : ℕ) → i < length rules → get_or (map Some rules) i None ≡ Some r → r ∈ rules
 index-mem rules r i l e =
     let k = nth-of-lt rules i l in
-    let known = nth-get_d RuleBytes.Unknown (nth-map RuleBytes.Known k.1) in
+    let known = nth-get_d None (nth-map Some k.1) in
     let same : k.0 ≡ r = cc in
     subst (λ (x : Rule). x ∈ rules) same (nth-mem k.1)
 
@@ -127,7 +125,7 @@ only-covers t π τ e c = let same : π ≡ τ = subst (λ (x : Scope). Covers x
 
 -- the spread rules of a file of such rules are these
 module _ (h : Header) (rules : List Rule) (contents : List ℕ) (number : h.rules ≡ length rules)
-    (read : (i : ℕ) → i < length rules → rule_at h contents i ≡ get_or (map RuleBytes.Known rules) i RuleBytes.Unknown)
+    (read : (i : ℕ) → i < length rules → rule_at h contents i ≡ get_or (map Some rules) i None)
     (placed : (r : Rule) → r ∈ rules → (τ : Place) × (r.scope ≡ Scope.Only τ)) where
   to-rules : (r : Rule) → r ∈ spread_rules h contents → r ∈ rules
   to-rules r m =
@@ -161,7 +159,7 @@ module _ (h : Header) (rules : List Rule) (contents : List ℕ) (number : h.rule
 
 -- ---- the form of a file that reads
 
-module _ (s : List ℕ) (h : Header) (e : parsed s ≡ Parsed.Read h) where
+module _ (s : List ℕ) (h : Header) (e : parsed s ≡ Ok h) where
   abbrev rules : List Rule
   rules = remaining h (content s)
 

@@ -1,4 +1,5 @@
 -- The laws of document 02's W4, under its sentences. Assumes nothing.
+use Rattle.std.proofs.Common.{Result, Ok, Err}
 use Prim.Native.Nat.{ℕ, ◌+◌, ◌*◌, ◌<◌, ◌≤◌}
 use mathlib.Core.Path.{◌≡◌, refl, sym, ap, subst, ◌∙◌}
 use mathlib.Core.Logic.{◌↔◌}
@@ -10,9 +11,7 @@ use lib.Seq.{take_at}
 use Rattle.blocks.specs.Blocks.{content}
 use Rattle.blocks.specs.FileOf.{blocks_needed}
 use Rattle.blocks.proofs.Written.{file-length}
-use Rattle.refusal.specs.Checks.{refused, refuse_if}
-use Rattle.refusal.specs.declared.Check.{Check}
-use Rattle.refusal.specs.declared.Check.TheVariants.{Passed}
+use Rattle.refusal.specs.Checks.{refused, refuse_if, Check}
 use Rattle.refusal.specs.declared.Fault.{Fault}
 use Rattle.refusal.specs.declared.Refusal.{Refusal}
 use Rattle.refusal.proofs.Passed.{clash, both-passed, if-passed}
@@ -20,7 +19,6 @@ use Rattle.automaton.specs.File.{parsed}
 use Rattle.automaton.specs.Payload.{records_of, payload_of}
 use Rattle.automaton.specs.declared.Header.{Header}
 use Rattle.automaton.specs.declared.Rule.{Rule}
-use Rattle.automaton.specs.declared.file.Parsed.{Parsed}
 use Rattle.automaton.proofs.Records.{records-length}
 use Rattle.automaton_writer.specs.ReadsBack.{automaton_file}
 use Rattle.automaton_writer.proofs.Bytes.{payload-length}
@@ -31,13 +29,9 @@ use Rattle.determinism.specs.Single.{single_if, single_of}
 use Rattle.determinism.proofs.RepeatedRecords.{same-single, same_answer}
 use Rattle.membership.specs.Judged.{judged_by, judged}
 use Rattle.membership.specs.Grown.{growth_by, growth_judged}
-use Rattle.membership.specs.declared.Answer.{Answer}
 use Rattle.emptiness.specs.Surveyed.{answered, surveyed_by, surveyed}
 use Rattle.emptiness.specs.Checked.{checked_by, checked}
-use Rattle.emptiness.specs.declared.Survey.{Survey}
-use Rattle.emptiness.specs.declared.Quick.{Quick}
 use Rattle.block_writer.specs.Written.{room_check, Filled, filled, filled_after}
-use Rattle.block_writer.specs.declared.Written.{Written}
 use Rattle.block_writer.proofs.Answers.{room-enough, room-passed, after-bytes, after_kept}
 use Rattle.rule_order.proofs.Ordering.{same_back, same-on, ordered-rising, ordered_same, ordered-is}
 use Rattle.canonical.specs.Canonical.{remaining, canonical_header, canonical_file, many_check, form_check, form_check_of, written_for, canonical_of}
@@ -65,7 +59,7 @@ of-few n room l = rw (le-ltb 512 n l)
 -- both, for the proof of `form_check`
 pub ruleset by_number = (of-many, of-few)
 
-pub of-passed : (n room : ℕ) → form_check_of n room ≡ Passed → (n ≤ 512) × (512 * blocks_needed (20 + 5 * n) ≤ room)
+pub of-passed : (n room : ℕ) → form_check_of n room ≡ Ok tt → (n ≤ 512) × (512 * blocks_needed (20 + 5 * n) ≤ room)
 unfolding form_check_of
 of-passed n room e =
     let both = both-passed (refuse_if (lib.Dec.ltb 512 n) Fault.Rules 2 0) (room_check (512 * blocks_needed (20 + 5 * n)) room) e in
@@ -76,30 +70,30 @@ pub form-is : (h : Header) (rules : List Rule) (room : ℕ) → form_check h rul
 unfolding form_check form_check_of
 form-is h rules room = rw (form-long h rules)
 
-pub read_is : (s out : List ℕ) (h : Header) → parsed s ≡ Parsed.Read h → canonical_of s out ≡ written_for h (remaining h (content s)) out
+pub read_is : (s out : List ℕ) (h : Header) → parsed s ≡ Ok h → canonical_of s out ≡ written_for h (remaining h (content s)) out
 unfolding canonical_of
 read_is s out h e = rw e
 
-pub refused-is : (s out : List ℕ) (r : Refusal) → parsed s ≡ Parsed.Refused r → canonical_of s out ≡ filled (Written.Refused r) out
+pub refused-is : (s out : List ℕ) (r : Refusal) → parsed s ≡ Err r → canonical_of s out ≡ filled (Err r) out
 unfolding canonical_of
 refused-is s out r e = rw e
 
 -- a file was written: the input reads, 512 of its rules remain at the most, and it is the file of these
 pub record Formed (s out : List ℕ) (n : ℕ) : Type 0 where
   pub header : Header
-  pub read : parsed s ≡ Parsed.Read header
+  pub read : parsed s ≡ Ok header
   pub few : length (remaining header (content s)) ≤ 512
   pub long : n ≡ length (canonical_file header (remaining header (content s)))
   pub bytes : (canonical_of s out).out ≡ canonical_file header (remaining header (content s)) ++ drop n out
   pub front : take n (canonical_of s out).out ≡ canonical_file header (remaining header (content s))
 
-pub formed : (s out : List ℕ) (n : ℕ) → (canonical_of s out).answer ≡ Written.Bytes n → Formed s out n
+pub formed : (s out : List ℕ) (n : ℕ) → (canonical_of s out).answer ≡ Ok n → Formed s out n
 unfolding written_for
 formed s out n told = by (parsed s) refl
   where
-    by : (p : Parsed) → parsed s ≡ p → Formed s out n
-    by (Parsed.Refused r) e = let o = ap (λ (x : Filled). x.answer) (refused-is s out r e) in clash (cc)
-    by (Parsed.Read h) e =
+    by : (p : Result Header Refusal) → parsed s ≡ p → Formed s out n
+    by (Err r) e = let o = ap (λ (x : Filled). x.answer) (refused-is s out r e) in clash (cc)
+    by (Ok h) e =
         let rules = remaining h (content s) in
         let is = read_is s out h e in
         let a = after-bytes (form_check h rules (length out)) (canonical_file h rules) out n (ap (λ (x : Filled). x.answer) (sym is) ∙ told) in
@@ -133,29 +127,29 @@ form-written s out n f =
       rising = ordered-rising (spread_rules h (content s));
     }
 
-kept : (s out : List ℕ) (r : Refusal) → (canonical_of s out).answer ≡ Written.Refused r → (canonical_of s out).out ≡ out
+kept : (s out : List ℕ) (r : Refusal) → (canonical_of s out).answer ≡ Err r → (canonical_of s out).out ≡ out
 unfolding written_for
 kept s out r told = by (parsed s) refl
   where
-    by : (p : Parsed) → parsed s ≡ p → (canonical_of s out).out ≡ out
-    by (Parsed.Refused q) e = ap (λ (x : Filled). x.out) (refused-is s out q e)
-    by (Parsed.Read h) e =
+    by : (p : Result Header Refusal) → parsed s ≡ p → (canonical_of s out).out ≡ out
+    by (Err q) e = ap (λ (x : Filled). x.out) (refused-is s out q e)
+    by (Ok h) e =
         let rules = remaining h (content s) in
         let is = read_is s out h e in
         ap (λ (x : Filled). x.out) is
         ∙ after_kept (form_check h rules (length out)) (canonical_file h rules) out r (ap (λ (x : Filled). x.answer) (sym is) ∙ told)
 
-unless_stopped : (s out : List ℕ) (h : Header) → parsed s ≡ Parsed.Read h → many_check (length (remaining h (content s))) ≡ Passed
-    → room_check (length (canonical_file h (remaining h (content s)))) (length out) ≡ Passed
-    → (canonical_of s out).answer ≡ Written.Bytes (length (canonical_file h (remaining h (content s))))
+unless_stopped : (s out : List ℕ) (h : Header) → parsed s ≡ Ok h → many_check (length (remaining h (content s))) ≡ Ok tt
+    → room_check (length (canonical_file h (remaining h (content s)))) (length out) ≡ Ok tt
+    → (canonical_of s out).answer ≡ Ok (length (canonical_file h (remaining h (content s))))
 unfolding written_for form_check
 unless_stopped s out h e many room =
-    let both : form_check h (remaining h (content s)) (length out) ≡ Passed = rw (many, room) in
+    let both : form_check h (remaining h (content s)) (length out) ≡ Ok tt = rw (many, room) in
     ap (λ (x : Filled). x.answer) (read_is s out h e ∙ ap (λ (c : Check). filled_after c (canonical_file h (remaining h (content s))) out) both)
 
 -- ---- what is written reads without refusal, and its spread rules are those of the input; so "Every letter gets the same answer under it."
 
-module _ (s out : List ℕ) (n : ℕ) (told : (canonical_of s out).answer ≡ Written.Bytes n) where
+module _ (s out : List ℕ) (n : ℕ) (told : (canonical_of s out).answer ≡ Ok n) where
   pub wrote : Formed s out n
   wrote = formed s out n told
 
@@ -167,7 +161,7 @@ module _ (s out : List ℕ) (n : ℕ) (told : (canonical_of s out).answer ≡ Wr
   header = canonical_header wrote.header (length (remaining wrote.header (content s)))
 
   -- it reads without refusal ..
-  pub file-reads : parsed file ≡ Parsed.Read header
+  pub file-reads : parsed file ≡ Ok header
   file-reads = rw wrote.front (form-reads s wrote.header wrote.read wrote.few).read
 
   -- .. and its spread rules are those of the input
@@ -186,7 +180,7 @@ module _ (s out : List ℕ) (n : ℕ) (told : (canonical_of s out).answer ≡ Wr
   -- a refused letter has its refusal
   pub same-judged : (tree : List ℕ) → judged file tree ≡ judged s tree
   unfolding judged
-  same-judged tree = same-answers Answer.Refused (λ A. judged_by A tree)
+  same-judged tree = same-answers Err (λ A. judged_by A tree)
 
   -- and each letter its sum of growths
   pub same-growth : (tree : List ℕ) → growth_judged file tree ≡ growth_judged s tree
@@ -196,15 +190,15 @@ module _ (s out : List ℕ) (n : ℕ) (told : (canonical_of s out).answer ≡ Wr
   -- the survey, with what it leaves in the plan buffer; the quick check; and single
   pub same-survey : (buffer : List ℕ) → surveyed file buffer ≡ surveyed s buffer
   unfolding surveyed
-  same-survey buffer = same-answers (λ r. answered (Survey.Refused r) buffer) (λ A. surveyed_by A buffer)
+  same-survey buffer = same-answers (λ r. answered (Err r) buffer) (λ A. surveyed_by A buffer)
 
   pub same-quick : checked file ≡ checked s
   unfolding checked
-  same-quick = same-answers Quick.Refused checked_by
+  same-quick = same-answers Err (λ A. Ok (checked_by A))
 
   pub same-singleness : single_of file ≡ single_of s
   unfolding single_of
-  same-singleness = rw (file-reads, wrote.read) (ap single_if (same-single (spread_rules header (content file)) (spread_rules wrote.header (content s)) same-spread))
+  same-singleness = rw (file-reads, wrote.read) (ap (λ b. Ok (single_if b)) (same-single (spread_rules header (content file)) (spread_rules wrote.header (content s)) same-spread))
 
 -- ---- "Two files that are not refused give equal output exactly when those counts, the three sets and the set of spread rules agree"
 
@@ -231,12 +225,12 @@ module _ (s s' : List ℕ) (h h' : Header) where
   rules' = remaining h' (content s')
 
   -- the files hold the same, and so they were made of the same
-  equal-files : parsed s ≡ Parsed.Read h → parsed s' ≡ Parsed.Read h' → length rules ≤ 512 → length rules' ≤ 512
+  equal-files : parsed s ≡ Ok h → parsed s' ≡ Ok h' → length rules ≤ 512 → length rules' ≤ 512
       → canonical_file h rules ≡ canonical_file h' rules' → SameCounts h h' × SameRules (spread_rules h (content s)) (spread_rules h' (content s'))
   equal-files e e' few few' same =
       let here = (form-reads s h e few).read in
       let there = (form-reads s' h' e' few').read in
-      let read : Parsed.Read (canonical_header h (length rules)) ≡ Parsed.Read (canonical_header h' (length rules')) = sym here ∙ ap parsed same ∙ there in
+      let read : Ok (canonical_header h (length rules)) ≡ Ok (canonical_header h' (length rules')) = sym here ∙ ap parsed same ∙ there in
       let headers : canonical_header h (length rules) ≡ canonical_header h' (length rules') = cc in
       let held : rules ≡ rules' =
       sym (form-again s h e few) ∙ ap (λ (x : List ℕ). remaining (canonical_header h (length rules)) (content x)) same
@@ -253,8 +247,8 @@ module _ (s s' : List ℕ) (h h' : Header) where
       ap (λ (x : Header). automaton_file x rules) (header-same h h' (length rules) (length rules') counts (ap length held))
       ∙ ap (automaton_file (canonical_header h' (length rules'))) held
 
-  pub equal-output : parsed s ≡ Parsed.Read h → parsed s' ≡ Parsed.Read h' → (out out' : List ℕ) (n n' : ℕ)
-      → (canonical_of s out).answer ≡ Written.Bytes n → (canonical_of s' out').answer ≡ Written.Bytes n'
+  pub equal-output : parsed s ≡ Ok h → parsed s' ≡ Ok h' → (out out' : List ℕ) (n n' : ℕ)
+      → (canonical_of s out).answer ≡ Ok n → (canonical_of s' out').answer ≡ Ok n'
       → (take n (canonical_of s out).out ≡ take n' (canonical_of s' out').out)
       ↔ (SameCounts h h' × SameRules (spread_rules h (content s)) (spread_rules h' (content s')))
   equal-output e e' out out' n n' told told' =
@@ -272,12 +266,12 @@ module _ (s s' : List ℕ) (h h' : Header) where
 
 -- ---- "and writing the output again changes nothing."
 
-same-again : (file form out : List ℕ) (n : ℕ) → file ≡ form → n ≡ length form → canonical_of form out ≡ filled_after Passed form out
-    → canonical_of file out ≡ filled (Written.Bytes n) (file ++ drop n out)
+same-again : (file form out : List ℕ) (n : ℕ) → file ≡ form → n ≡ length form → canonical_of form out ≡ filled_after (Ok tt) form out
+    → canonical_of file out ≡ filled (Ok n) (file ++ drop n out)
 same-again file form out n e l wrote = rw (e, l) wrote
 
-pub writes_again : (s out : List ℕ) (n : ℕ) → (canonical_of s out).answer ≡ Written.Bytes n → (out' : List ℕ) → n ≤ length out'
-    → canonical_of (take n (canonical_of s out).out) out' ≡ filled (Written.Bytes n) (take n (canonical_of s out).out ++ drop n out')
+pub writes_again : (s out : List ℕ) (n : ℕ) → (canonical_of s out).answer ≡ Ok n → (out' : List ℕ) → n ≤ length out'
+    → canonical_of (take n (canonical_of s out).out) out' ≡ filled (Ok n) (take n (canonical_of s out).out ++ drop n out')
 unfolding written_for
 writes_again s out n told out' room =
     let g = formed s out n told in
@@ -286,9 +280,9 @@ writes_again s out n told out' room =
     let form = canonical_file g.header rules in
     let again = form-again s g.header g.read g.few in
     let fits : 512 * blocks_needed (20 + 5 * length rules) ≤ length out' = omega (arith, g.long, form-long g.header rules) in
-    let passes : form_check header rules (length out') ≡ Passed =
+    let passes : form_check header rules (length out') ≡ Ok tt =
     form-is header rules (length out') ∙ of-few (length rules) (length out') g.few ∙ room-enough _ (length out') fits in
-    let wrote : canonical_of form out' ≡ filled_after Passed form out' =
+    let wrote : canonical_of form out' ≡ filled_after (Ok tt) form out' =
     read_is form out' header (form-reads s g.header g.read g.few).read
     ∙ ap (λ (l : List Rule). written_for header l out') again
     ∙ ap (λ (c : Check). filled_after c form out') passes in

@@ -1,4 +1,5 @@
 -- What is answered by rule records, of which the code has the bytes. Assumes nothing.
+use Rattle.std.proofs.Common.{Ok, Err}
 use Prim.Native.Nat.{ℕ, ◌+◌, ◌*◌, ◌/◌, ◌%◌, ◌≤◌}
 use mathlib.Core.Path.{◌≡◌, sym, ap, ◌∙◌}
 use mathlib.Core.List.{List, ◌++◌}
@@ -6,14 +7,12 @@ use native.Mathlib.Omega.{arith}
 use lib.ListN.{length, take, drop}
 use lib.Seq.{take_at}
 use Rattle.blocks.specs.FileOf.{blocks_needed, file_of}
-use Rattle.refusal.specs.declared.Check.TheVariants.{Passed, Refused}
 use Rattle.refusal.specs.declared.Refusal.{Refusal}
 use Rattle.automaton.specs.Payload.{records_of, payload_of}
 use Rattle.automaton.specs.declared.Header.{Header}
 use Rattle.automaton.specs.declared.Rule.{Rule}
 use Rattle.automaton.proofs.Records.{records-length}
 use Rattle.block_writer.specs.Written.{filled}
-use Rattle.block_writer.specs.declared.Written.{Written}
 use Rattle.block_writer.proofs.Answers.{told}
 use Rattle.blocks.proofs.Stores.{sets-front}
 use Rattle.rule_order.specs.Listed.{Room, Put}
@@ -21,7 +20,7 @@ use Rattle.canonical.specs.Canonical.{canonical_header, canonical_file, form_che
 use Rattle.canonical.proofs.OneForm.{form-is, of-passed}
 
 -- records that pass are within the limits of the writer
-pub records-fit : (records out : List ℕ) → length records % 5 ≡ 0 → form_check_of (length records / 5) (length out) ≡ Passed
+pub records-fit : (records out : List ℕ) → length records % 5 ≡ 0 → form_check_of (length records / 5) (length out) ≡ Ok tt
     → (length records ≤ 2560) × (512 * blocks_needed (20 + length records) ≤ length out)
 records-fit records out whole passed =
     let p = of-passed (length records / 5) (length out) passed in
@@ -32,21 +31,21 @@ module _ (h : Header) (records : List ℕ) (rules : List Rule) (out : List ℕ) 
   count-is : length records / 5 ≡ length rules
   count-is = let n : length records ≡ 5 * length rules = ap length is ∙ records-length rules in omega arith
 
-  pub stopped : (r : Refusal) → form_check_of (length records / 5) (length out) ≡ Refused r → filled (Written.Refused r) out ≡ written_for h rules out
+  pub stopped : (r : Refusal) → form_check_of (length records / 5) (length out) ≡ Err r → filled (Err r) out ≡ written_for h rules out
   unfolding written_for
   stopped r e =
-      let check : form_check h rules (length out) ≡ Refused r = form-is h rules (length out) ∙ ap (λ (k : ℕ). form_check_of k (length out)) (sym count-is) ∙ e in
+      let check : form_check h rules (length out) ≡ Err r = form-is h rules (length out) ∙ ap (λ (k : ℕ). form_check_of k (length out)) (sym count-is) ∙ e in
       rw check
 
-  pub written : (header : Header) (n : ℕ) (after : List ℕ) → form_check_of (length records / 5) (length out) ≡ Passed
+  pub written : (header : Header) (n : ℕ) (after : List ℕ) → form_check_of (length records / 5) (length out) ≡ Ok tt
       → header ≡ canonical_header h (length records / 5) → n ≡ length (file_of (payload_of header records)) → after ≡ file_of (payload_of header records) ++ drop n out
-      → filled (Written.Bytes n) after ≡ written_for h rules out
+      → filled (Ok n) after ≡ written_for h rules out
   unfolding written_for
   written header n after passed same long bytes =
       let file : file_of (payload_of header records) ≡ canonical_file h rules =
       ap (λ (x : Header). file_of (payload_of x records)) (same ∙ ap (canonical_header h) count-is)
       ∙ ap (λ (x : List ℕ). file_of (payload_of (canonical_header h (length rules)) x)) is in
-      let check : form_check h rules (length out) ≡ Passed = form-is h rules (length out) ∙ ap (λ (k : ℕ). form_check_of k (length out)) (sym count-is) ∙ passed in
+      let check : form_check h rules (length out) ≡ Ok tt = form-is h rules (length out) ∙ ap (λ (k : ℕ). form_check_of k (length out)) (sym count-is) ∙ passed in
       rw check (told n after (canonical_file h rules) out (long ∙ ap length file) (bytes ∙ ap (λ (x : List ℕ). x ++ drop n out) file))
 
 -- the records at the front of the buffer

@@ -1,11 +1,10 @@
 -- An automaton's file in its one form, what is answered to a file and a lent output, and what is left in the output. The quotations are of
 -- document 02, W4.
 -- Interface: `remaining`, `canonical_header`, `canonical_file`, `many_check`, `form_check`, `form_check_of`, `written_for`, `canonical_of`.
-use Rattle.std.specs.Prelude.{ℕ, ◌+◌, ◌*◌, List, ltb, length}
+use Rattle.std.specs.Prelude.{ℕ, ◌+◌, ◌*◌, List, ltb, length, Err}
 use Rattle.blocks.specs.Blocks.{content}
 use Rattle.blocks.specs.FileOf.{blocks_needed}
-use Rattle.refusal.specs.Checks.{refuse_if, ◌and_then◌}
-use Rattle.refusal.specs.declared.Check.{Check}
+use Rattle.refusal.specs.Checks.{refuse_if, ◌and_then◌, Check}
 use Rattle.refusal.specs.declared.Fault.{Fault}
 use Rattle.automaton.specs.File.{parsed, by_reading}
 use Rattle.automaton.specs.declared.Header.{Header}
@@ -13,7 +12,6 @@ use Rattle.automaton.specs.declared.Rule.{Rule}
 use Rattle.automaton_writer.specs.ReadsBack.{automaton_file}
 use Rattle.transitions.specs.Spread.{spread_rules}
 use Rattle.block_writer.specs.Written.{room_check, Filled, filled, filled_after}
-use Rattle.block_writer.specs.declared.Written.{Written}
 use Rattle.rule_order.specs.Order.{ordered}
 
 -- "place 3 spread, repeats dropped, rules in rising order of their five bytes compared from the first"
@@ -48,4 +46,4 @@ written_for h rules out = filled_after (form_check h rules (length out)) (canoni
 -- "17, after the walker's own": of an automaton's file, by document 01's table at all times
 unfoldable pub canonical_of : (file out : List ℕ) → Filled
 canonical_of s out =
-    by_reading (parsed s) (content s) (λ r. filled (Written.Refused r) out) (λ h contents. written_for h (remaining h contents) out)
+    by_reading (parsed s) (content s) (λ r. filled (Err r) out) (λ h contents. written_for h (remaining h contents) out)

@@ -13,16 +13,15 @@ ghost use Rattle.canonical.specs.Canonical.{canonical_header, form_check_of, wri
 ghost use Rattle.canonical.specs.Promise.{Promise};
 
 use automaton::Header;
-use automaton::file::Parsed;
 use automaton_writer::write_automaton;
-use block_writer::{Written, room_check};
-use refusal::{Check, Fault, refused};
+use block_writer::room_check;
+use refusal::{Fault, Refusal, refused};
 use rule_order::write_rules;
 use transitions::TransitionTable;
 
 // Refusal 17, then 13, for so many rules.
 #[tactic(auto, using(crate::proofs::OneForm::by_number))]
-fn form_check(rules: usize, room: usize) -> Check
+fn form_check(rules: usize, room: usize) -> Result<(), Refusal>
     ensures { result ≡ form_check_of rules room }
 {
     if 512 < rules {
@@ -47,20 +46,18 @@ fn with_rules(header: Header, rules: usize) -> Header
 }
 
 // Writes the file of these rule records, unless 17 or 13 stops it.
-fn write_records(header: Header, records: &[u8], out: &mut [u8]) -> Written
+fn write_records(header: Header, records: &[u8], out: &mut [u8]) -> Result<usize, Refusal>
     requires { length records.now % 5 ≡ 0 }
     ensures { (rules : List Rule) → records.now ≡ records_of rules
         → filled result out.new ≡ written_for header rules out.old }
 {
     let rules = records.len() / 5;
-    if let Check::Refused(refusal) = form_check(rules, out.len()) {
-        return Written::Refused(refusal);
-    }
-    Written::Bytes(write_automaton(with_rules(header, rules), records, out))
+    form_check(rules, out.len())?;
+    Ok(write_automaton(with_rules(header, rules), records, out))
 }
 
 // The same by compiled transitions: a file's rules are 512 at the most, and so 1,536 after spreading.
-fn write_table(header: Header, table: &TransitionTable, out: &mut [u8]) -> Written
+fn write_table(header: Header, table: &TransitionTable, out: &mut [u8]) -> Result<usize, Refusal>
     requires { WithinLimits header × (5 * length (listed (next_in table.now) header.states header.symbols) ≤ 7680) }
     ensures { filled result out.new
         ≡ written_for header (listed (next_in table.now) header.states header.symbols) out.old }
@@ -71,18 +68,14 @@ fn write_table(header: Header, table: &TransitionTable, out: &mut [u8]) -> Writt
 }
 
 // Writes an automaton's file in its one form to the front of `out`.
-pub fn write(file: &[u8], out: &mut [u8]) -> Written
+pub fn write(file: &[u8], out: &mut [u8]) -> Result<usize, Refusal>
     ensures equals { filled result out.new ≡ canonical_of file.now out.old }
     ensures right { Promise file.now out.old (filled result out.new) }
 {
     let mut contents = [0u8; 3048];
-    match automaton::file::parse(file, &mut contents) {
-        Parsed::Refused(refusal) => Written::Refused(refusal),
-        Parsed::Read(header) => {
-            let mut table = [0u32; 9216];
-            let len = blocks::content_length(file);
-            transitions::compile(&contents[..len], header, &mut table);
-            write_table(header, &table, out)
-        }
-    }
+    let header = automaton::file::parse(file, &mut contents)?;
+    let mut table = [0u32; 9216];
+    let len = blocks::content_length(file);
+    transitions::compile(&contents[..len], header, &mut table);
+    write_table(header, &table, out)
 }

@@ -3,60 +3,11 @@
 // bytes, low byte first), then the label and the file. tools/make_canonical_cases.py makes them.
 #![tactic(auto)]
 
-ghost use Rattle.std.specs.Prelude.{◌+◌, ◌<◌, ◌≤◌, length};
-
-use block_writer::Written;
 use refusal::Refusal;
-
-fn number(label: &[u8], n: u64) {
-    io::write_all(1, label);
-    io::print_decimal(1, n);
-}
-
-fn print_refusal(refusal: Refusal) {
-    number(b" refused=", refusal.number as u64);
-    number(b" file=", refusal.file as u64);
-    number(b" place=", refusal.place as u64);
-}
-
-// Fills the first n bytes of a buffer from the input; false where either is shorter.
-fn read_front(buffer: &mut [u8], n: usize) -> bool {
-    if buffer.len() < n {
-        return false;
-    }
-    io::read_full(0, &mut buffer[..n]) == n
-}
-
-fn pair_at(bytes: &[u8], at: usize) -> usize
-    requires { at + 2 ≤ length bytes.now }
-{
-    blocks::half_at(bytes, at) as usize
-}
-
-// A pattern, by which a byte that is written, or moved, is seen.
-fn fill(bytes: &mut [u8]) {
-    for i in 0..bytes.len() {
-        bytes[i] = (i % 251) as u8;
-    }
-}
-
-fn mixed(sum: u64, b: u8) -> u64
-    ensures { result < 1000003 }
-{
-    ((sum % 1000003) * 257 + (b as u64)) % 1000003
-}
-
-// A number that depends on each byte and its place.
-fn mix(bytes: &[u8]) -> u64 {
-    let mut sum = 1u64;
-    for i in 0..bytes.len() {
-        sum = mixed(sum, bytes[i]);
-    }
-    sum
-}
+use telling::{fill, mix, number, pair_at, print_refusal, read_front};
 
 // Writes the form into the front of a buffer.
-fn write(file: &[u8], buffer: &mut [u8], room: usize) -> Written {
+fn write(file: &[u8], buffer: &mut [u8], room: usize) -> Result<usize, Refusal> {
     if room <= buffer.len() {
         canonical::write(file, &mut buffer[..room])
     } else {
@@ -68,7 +19,7 @@ fn write(file: &[u8], buffer: &mut [u8], room: usize) -> Written {
 fn print_again(file: &[u8], room: usize, before: u64) {
     let mut buffer = [0u8; 8192];
     fill(&mut buffer);
-    write(file, &mut buffer, room);
+    let _ = write(file, &mut buffer, room);
     if mix(&buffer) == before {
         io::write_all(1, b" again=same");
     } else {
@@ -80,8 +31,8 @@ fn print_written(file: &[u8], room: usize) {
     let mut buffer = [0u8; 8192];
     fill(&mut buffer);
     match write(file, &mut buffer, room) {
-        Written::Refused(refusal) => print_refusal(refusal),
-        Written::Bytes(n) => {
+        Err(refusal) => print_refusal(refusal),
+        Ok(n) => {
             number(b" written=", n as u64);
             number(b" rules=", pair_at(&buffer, 4) as u64);
             print_again(blocks::front(&buffer, n), room, mix(&buffer));

@@ -3,25 +3,12 @@
 // the label and the files. tools/make_cases.py makes the cases and, from document 01 alone, the lines that are expected.
 #![tactic(auto)]
 
-ghost use Rattle.std.specs.Prelude.{◌+◌, ◌≤◌, length};
+ghost use Rattle.std.specs.Prelude.{◌≤◌};
 
 use automaton::Header;
-use automaton::file::Parsed;
 use determinism::Singleness;
 use model::Signature;
-use refusal::Refusal;
-use tree::file::ParsedTree;
-
-fn number(label: &[u8], n: u64) {
-    io::write_all(1, label);
-    io::print_decimal(1, n);
-}
-
-fn print_refusal(refusal: Refusal) {
-    number(b" refused=", refusal.number as u64);
-    number(b" file=", refusal.file as u64);
-    number(b" place=", refusal.place as u64);
-}
+use telling::{number, pair_at, print_refusal, read_front};
 
 // How many bits of a set are on.
 fn size_of(set: u32) -> u64
@@ -41,13 +28,13 @@ fn transitions_of(table: &[u32; 9216]) -> u64 {
 
 fn print_single(file: &[u8]) {
     match determinism::single_file(file) {
-        Singleness::Single => {
+        Ok(Singleness::Single) => {
             io::write_all(1, b" single=yes");
         }
-        Singleness::Multiple => {
+        Ok(Singleness::Multiple) => {
             io::write_all(1, b" single=no");
         }
-        Singleness::Refused(refusal) => print_refusal(refusal),
+        Err(refusal) => print_refusal(refusal),
     }
 }
 
@@ -62,13 +49,10 @@ fn print_header(header: Header) {
 
 fn print_tree(file: &[u8], header: Header) {
     let mut nodes = [0u8; 4096];
-    let signature = Signature {
-        symbols: header.symbols,
-        branches: header.branches,
-    };
+    let signature = Signature::from(header);
     match tree::file::read_tree(file, signature, &mut nodes) {
-        ParsedTree::Nodes(k) => number(b" nodes=", k as u64),
-        ParsedTree::Refused(refusal) => print_refusal(refusal),
+        Ok(k) => number(b" nodes=", k as u64),
+        Err(refusal) => print_refusal(refusal),
     }
 }
 
@@ -76,8 +60,8 @@ fn print_tree(file: &[u8], header: Header) {
 fn print_case(automaton: &[u8], tree: &[u8], with_tree: bool) {
     let mut table = [0u32; 9216];
     match transitions::load(automaton, &mut table) {
-        Parsed::Refused(refusal) => print_refusal(refusal),
-        Parsed::Read(header) => {
+        Err(refusal) => print_refusal(refusal),
+        Ok(header) => {
             if with_tree {
                 print_tree(tree, header);
             } else {
@@ -88,20 +72,6 @@ fn print_case(automaton: &[u8], tree: &[u8], with_tree: bool) {
         }
     }
     io::write_all(1, b"\n");
-}
-
-// Fills the first n bytes of a buffer from the input; false where either is shorter.
-fn read_front(buffer: &mut [u8], n: usize) -> bool {
-    if buffer.len() < n {
-        return false;
-    }
-    io::read_full(0, &mut buffer[..n]) == n
-}
-
-fn pair_at(head: &[u8], at: usize) -> usize
-    requires { at + 2 ≤ length head.now }
-{
-    blocks::half_at(head, at) as usize
 }
 
 fn has_tree(head: &[u8; 5]) -> bool {

@@ -1,13 +1,14 @@
 -- The cache: lent tables that hold the classes met so far and, of nodes over them, the classes that were computed. 0 is: not known yet.
 -- At a symbol a class has an index as a left part and one as a right part; classes that do the same there may share it. A cell is a key, made
 -- of the indices of a node's two parts, over a word, which names the node's class and has its growths. Where a key stands among the cells does not matter.
--- Interface: `index_at`, `key`, `word_under`, `Right`, `classes`, `indices`, `CachedIn`, `After`, `Kept`.
-use Rattle.std.specs.Prelude.{◌≡◌, ℕ, ◌+◌, ◌*◌, ◌/◌, ◌%◌, ◌<◌, ◌≤◌, cond, List, length, ◌==◌, slice_index}
+-- Interface: `index_at`, `key`, `word_under`, `Right`, `classes`, `indices`, `CachedIn`, `Cached`, `Fresh`, `After`, `AfterCall`, `Kept`.
+use Rattle.std.specs.Prelude.{◌≡◌, ℕ, ◌+◌, ◌*◌, ◌/◌, ◌%◌, ◌<◌, ◌≤◌, cond, List, [], ◌∷◌, replicate, length, ◌==◌, slice_index}
 use Rattle.relation.specs.Rows.{no_pairs}
 use Rattle.model.specs.declared.Side.{Side}
 use Rattle.algorithms.specs.Automaton.{Automaton}
 use Rattle.overloops.specs.Tables.{side_number}
 use Rattle.class_tables.specs.Classes.{rows_of, id_of, Node, Alike, Same}
+use Rattle.class_tables.specs.declared.Cache.{Cache}
 
 -- the index of class i as a part on a side of a node with the symbol σ, and where it stands
 abbrev pub index_place : Side → (σ i : ℕ) → ℕ
@@ -65,11 +66,25 @@ pub record CachedIn (A : Automaton) (counts store maps cells : List ℕ) : Type 
   pub right : (n σ l r : ℕ) → σ < 32 → l < classes counts → r < classes counts
       → key_in (slice_index cells n) ≡ key (index_at maps Side.Left σ l) (index_at maps Side.Right σ r) → Right A (classes counts) store σ l r (word_in (slice_index cells n))
 
+-- so are those of a cache that is lent whole
+abbrev pub Cached : Automaton → Cache → Type 0
+Cached A cache = CachedIn A cache.counts cache.store cache.maps cache.cells
+
+-- a cache as it begins: class 0 alone, no index in use, some credit, and zeros
+abbrev pub Fresh : Cache → Type 0
+Fresh cache =
+    (cache.counts ≡ 1 ∷ 1 ∷ 1 ∷ 1 ∷ 2048 ∷ 1 ∷ []) × (cache.store ≡ replicate 49152 0) × (cache.maps ≡ replicate 66560 0)
+    × (cache.cells ≡ replicate 16384 0) × (cache.hints ≡ replicate 6144 0)
+
 -- what a call leaves of the cache: a cache, in which the classes there were are what they were
 pub record After (A : Automaton) (counts store counts' store' maps' cells' : List ℕ) : Type 0 where
   pub cached : CachedIn A counts' store' maps' cells'
   pub same : Same (classes counts) store store'
   pub more : classes counts ≤ classes counts'
+
+-- so of a cache that is lent whole
+abbrev pub AfterCall : Automaton → (cache cache' : Cache) → Type 0
+AfterCall A cache cache' = After A cache.counts cache.store cache'.counts cache'.store cache'.maps cache'.cells
 
 -- counts that stay but for those that the cache does not go by
 pub record Kept (counts counts' : List ℕ) : Type 0 where

@@ -1,4 +1,4 @@
-// The lent tables of lazy determinization: the classes of trees, numbered as they are met, their indices at each symbol on each side, words of
+// The cache of lazy determinization, tables that are lent: the classes of trees, numbered as they are met, their indices at each symbol on each side, words of
 // nodes, under the keys of two indices, and hints at classes. A class is a tree's overloops as a left and as a right part. A word names a class
 // and has two growths of closing, as a left and as a right part.
 #![tactic(auto)]
@@ -7,7 +7,7 @@ ghost use Rattle.std.specs.Prelude.{◌≡◌, ℕ, ◌+◌, ◌<◌, ◌≤◌,
 ghost use Rattle.algorithms.specs.Automaton.{Automaton};
 ghost use Rattle.overloops.specs.Tables.{Put};
 ghost use Rattle.class_tables.specs.Classes.{rows_place, rows_of, id_of, growth_in, Node};
-ghost use Rattle.class_tables.specs.Cache.{index_place, index_at, key, word_under, Right, classes, CachedIn};
+ghost use Rattle.class_tables.specs.Cache.{index_place, index_at, key, word_under, Right, classes, CachedIn, Fresh};
 
 use model::{Side, Symbol};
 use overloops::{put_rows, rows_at, side_number};
@@ -30,6 +30,31 @@ pub type Cells = [u64; 16384];
 // Where a class may be found by what depends on its pairs: 2,048 for classes, for left and for right indices. Nothing is known of these: what
 // they lead to is looked at.
 pub type Hints = [u16; 6144];
+
+// The tables together. Whoever judges trees makes one and lends it, so that the trees share it.
+#[derive(Drop)]
+pub struct Cache {
+    pub counts: Counts,
+    pub store: Store,
+    pub maps: IndexMaps,
+    pub cells: Cells,
+    pub hints: Hints,
+}
+
+impl Cache {
+    // One that has no class yet but that of the parts of a leaf, with some credit.
+    pub fn fresh() -> Cache
+        ensures { Fresh result }
+    {
+        Cache {
+            counts: [1, 1, 1, 1, 2048, 1],
+            store: [0; 49152],
+            maps: [0; 66560],
+            cells: [0; 16384],
+            hints: [0; 6144],
+        }
+    }
+}
 
 fn wide(x: u16) -> usize
     ensures { (result ≡ x) × (result < 65536) }

@@ -14,6 +14,14 @@ use overloops::{LeafTable, leaf_loops, leaf_overloops, node_loops, node_overloop
 use relation::Relation;
 use transitions::TransitionTable;
 
+// An automaton as it is ready for use: its header, the table of its transitions and the overloops of its leaves.
+#[derive(Clone, Copy)]
+pub struct Prepared<'a> {
+    pub header: Header,
+    pub table: &'a TransitionTable,
+    pub leaves: &'a LeafTable,
+}
+
 #[derive(Clone, Copy)]
 pub struct Class {
     pub left: Relation,

@@ -1,10 +1,9 @@
 -- Answers as numbers, three for each tree, counted onto a tally.
 -- Interface: `outcome_numbered`, `counted_all`.
-use Rattle.std.specs.Prelude.{ℕ, zero, suc, ◌+◌, List, [], ◌∷◌}
+use Rattle.std.specs.Prelude.{ℕ, zero, suc, List, [], ◌∷◌}
 use Rattle.tally.specs.Tally.{counted_up}
 use Rattle.tally.specs.declared.Outcome.{Outcome}
 use Rattle.tally.specs.declared.Tally.{Tally}
-use Rattle.counting.specs.declared.Turn.{Turn}
 
 -- what an answer's first number comes to: 0 accepted, 1 other, any other refused
 abbrev pub outcome_numbered : ℕ → Outcome
@@ -18,10 +17,3 @@ counted_all t [] = t
 counted_all t (a ∷ []) = t
 counted_all t (a ∷ number ∷ []) = t
 counted_all t (a ∷ number ∷ place ∷ l) = counted_all (counted_up t (outcome_numbered a)).tally l
-
--- the first answer of what a list has from a place on
-unfoldable pub turn_at : (at : ℕ) → List ℕ → Turn
-turn_at at [] = Turn.End
-turn_at at (a ∷ []) = Turn.End
-turn_at at (a ∷ number ∷ []) = Turn.End
-turn_at at (a ∷ number ∷ place ∷ l) = Turn.Answer (outcome_numbered a) (at + 3)

@@ -1,6 +1,7 @@
 -- The laws of document 02's W2. What is told of a file that reads is so of the set of its spread rules, and of its automaton (`single-right`);
 -- neither order nor repeats of the records matter to it (`same-single`), nor to the automaton (`same-automaton`), its runs (`same_runs`) and
 -- every answer by it (`same_answer`). Assumes nothing.
+use Rattle.std.proofs.Common.{Result, Ok, Err}
 use Prim.Native.Nat.{ℕ}
 use mathlib.Core.Path.{◌≡◌, refl, sym, ap, subst}
 use mathlib.Core.Logic.{◌↔◌}
@@ -21,7 +22,6 @@ use Rattle.automaton.specs.Rules.{rule}
 use Rattle.automaton.specs.declared.Header.{Header}
 use Rattle.automaton.specs.declared.Rule.{Rule}
 use Rattle.automaton.specs.declared.Scope.{Scope}
-use Rattle.automaton.specs.declared.file.Parsed.{Parsed}
 use Rattle.transitions.specs.Transitions.{automaton_of, by_automaton}
 use Rattle.transitions.specs.Spread.{spread_rules, SameRules, SameCounts}
 use Rattle.determinism.specs.Single.{Single, single, single_if, single_of}
@@ -32,11 +32,15 @@ use Rattle.transitions.proofs.Spreading.{rule-same, spread-transition, spread-ru
 
 -- ---- "Equal rules, after place 3 is spread over its places, count as the same rule when we say whether a walker is single."
 
-single-told : (b : Bool) → (single_if b ≡ Singleness.Single) ↔ (b ≡ true)
+-- what is told of a file that reads
+abbrev answered : Bool → Result Singleness Refusal
+answered b = Ok (single_if b)
+
+single-told : (b : Bool) → (answered b ≡ Ok Singleness.Single) ↔ (b ≡ true)
 single-told true = (λ e. refl, λ e. refl)
 single-told false = (λ e. clash (cc), λ e. clash (cc))
 
-not-refused : (b : Bool) (x : Refusal) → ¬ (single_if b ≡ Singleness.Refused x)
+not-refused : (b : Bool) (x : Refusal) → ¬ (answered b ≡ Err x)
 not-refused true x e = clash (cc)
 not-refused false x e = clash (cc)
 
@@ -124,7 +128,7 @@ module _ (h h' : Header) (p p' : List ℕ) where
 
 -- judging, survey, quick check and tally answer the same
 module _ {ℓ} {X : Type ℓ} where
-  pub same_answer : (s s' : List ℕ) (h h' : Header) → parsed s ≡ Parsed.Read h → parsed s' ≡ Parsed.Read h' → SameCounts h h'
+  pub same_answer : (s s' : List ℕ) (h h' : Header) → parsed s ≡ Ok h → parsed s' ≡ Ok h' → SameCounts h h'
       → SameRules (spread_rules h (content s)) (spread_rules h' (content s')) → (refused : Refusal → X) (read : Automaton → X)
       → by_automaton s refused read ≡ by_automaton s' refused read
   same_answer s s' h h' e e' counts same refused read = rw (e, e') (ap read (one-automaton h h' (content s) (content s') counts same))

@@ -1,12 +1,13 @@
 -- Single automata (document 01, tally and report; as document 02, W2 has it): "Equal rules, after place 3 is spread over its places, count as the
 -- same rule when we say whether a walker is single." Of the spread rules, equal ones taken once, no two have the same symbol, state and place.
 -- Interface: `Single`, `meet`, `equal`, `single`, `single_if`, `single_of`.
-use Rattle.std.specs.Prelude.{ℕ, ◌≡◌, Bool, true, false, not, ◌&&◌, ◌||◌, List, [], ◌∷◌, eqb}
+use Rattle.std.specs.Prelude.{ℕ, ◌≡◌, Bool, true, false, not, ◌&&◌, ◌||◌, List, [], ◌∷◌, eqb, Result, Ok, Err}
 use Rattle.automaton.specs.File.{read_automaton}
 use Rattle.automaton.specs.Payload.{place_byte, move_byte}
 use Rattle.automaton.specs.declared.Rule.{Rule}
 use Rattle.transitions.specs.Spread.{spread_rules}
 use Rattle.determinism.specs.declared.Singleness.{Singleness}
+use Rattle.refusal.specs.declared.Refusal.{Refusal}
 
 -- of a set of rules: two with the same symbol, state and place are one
 pub record Single (rules : Rule → Type 0) : Type 0 where
@@ -43,5 +44,5 @@ single_if true = Singleness.Single
 single_if false = Singleness.Multiple
 
 -- whether its automaton is single, or its refusal
-unfoldable pub single_of : List ℕ → Singleness
-single_of s = read_automaton s Singleness.Refused (λ h contents. single_if (single (spread_rules h contents)))
+unfoldable pub single_of : List ℕ → Result Singleness Refusal
+single_of s = read_automaton s Err (λ h contents. Ok (single_if (single (spread_rules h contents))))

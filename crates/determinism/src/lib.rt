@@ -11,17 +11,15 @@ ghost use Rattle.determinism.specs.Single.{single_if, single_of};
 ghost use Rattle.determinism.specs.Singles.{SingleRight};
 
 use automaton::Header;
-use automaton::file::Parsed;
 use model::{Move, Place, Side, State, Symbol};
 use refusal::Refusal;
 use transitions::{TransitionTable, cell};
 
-// What is told of a file: whether its automaton is single, or its refusal.
+// Whether an automaton is single.
 #[derive(Clone, Copy)]
 pub enum Singleness {
     Single,
     Multiple,
-    Refused(Refusal),
 }
 
 // How many members a set has.
@@ -32,6 +30,7 @@ fn size(set: u32) -> u32
 }
 
 // Whether a symbol, a place and a state have at most one move and next state.
+#[tactic(auto, unfolding(crate::specs::Determined::one_choice))]
 fn one_choice(table: &TransitionTable, symbol: Symbol, place: Place, state: State) -> bool
     requires { (symbol.0 < 32) × (state.0 < 24) }
     ensures { result ≡ one_choice (next_in table.now) symbol.0 place state.0 }
@@ -48,17 +47,16 @@ fn one_each(table: &TransitionTable, symbol: Symbol, place: Place, states: usize
     requires { (symbol.0 < 32) × (states ≤ 24) }
     ensures { result ≡ one_each (next_in table.now) symbol.0 place states }
 {
-    let mut p = 0;
-    while p < states {
+    for p in 0..states {
         if !one_choice(table, symbol, place, State(p as u8)) {
             return false;
         }
-        p += 1;
     }
     true
 }
 
 // The same at each place.
+#[tactic(auto, unfolding(crate::specs::Determined::one_places))]
 fn one_places(table: &TransitionTable, symbol: Symbol, states: usize) -> bool
     requires { (symbol.0 < 32) × (states ≤ 24) }
     ensures { result ≡ one_places (next_in table.now) states symbol.0 }
@@ -77,12 +75,10 @@ fn one_symbols(table: &TransitionTable, symbols: usize, states: usize) -> bool
     requires { (symbols ≤ 32) × (states ≤ 24) }
     ensures { result ≡ one_symbols (next_in table.now) states symbols }
 {
-    let mut symbol = 0;
-    while symbol < symbols {
+    for symbol in 0..symbols {
         if !one_places(table, Symbol(symbol as u8), states) {
             return false;
         }
-        symbol += 1;
     }
     true
 }
@@ -101,13 +97,11 @@ pub fn single_prepared(header: Header, table: &TransitionTable) -> Singleness
 }
 
 // Whether the automaton of a file is single, or the file's refusal.
-pub fn single_file(file: &[u8]) -> Singleness
+pub fn single_file(file: &[u8]) -> Result<Singleness, Refusal>
     ensures equals { result ≡ single_of file.now }
     ensures right { SingleRight file.now result }
 {
     let mut table = [0u32; 9216];
-    match transitions::load(file, &mut table) {
-        Parsed::Refused(refusal) => Singleness::Refused(refusal),
-        Parsed::Read(header) => single_prepared(header, &table),
-    }
+    let header = transitions::load(file, &mut table)?;
+    Ok(single_prepared(header, &table))
 }

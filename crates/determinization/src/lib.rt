@@ -2,18 +2,18 @@
 // computed and kept.
 #![tactic(auto)]
 
-ghost use Rattle.std.specs.Prelude.{◌≡◌, true, List, ℕ, ◌+◌, ◌<◌, ◌≤◌};
+ghost use Rattle.std.specs.Prelude.{◌≡◌, true, ◌+◌, ◌<◌, ◌≤◌};
 ghost use Rattle.model.specs.declared.Place.{Place};
 ghost use Rattle.algorithms.specs.Automaton.{Automaton};
 ghost use Rattle.algorithms.specs.Overloops.{node_overloops};
 ghost use Rattle.algorithms.specs.Growth.{node_growth};
 ghost use Rattle.overloops.specs.Tables.{Tabled};
 ghost use Rattle.class_tables.specs.Classes.{rows_of, IsClass};
-ghost use Rattle.class_tables.specs.Cache.{Right, classes, CachedIn, After};
+ghost use Rattle.class_tables.specs.Cache.{Right, classes, Cached, AfterCall};
 
 use class_tables::{
-    Cells, Counts, Hints, IndexMaps, Store, class_rows, free_hint, hint_at, hinted, keep, mixed,
-    put_side, word_around, word_of, word_with,
+    Cache, Store, class_rows, free_hint, hint_at, hinted, keep, mixed, put_side, word_around,
+    word_of, word_with,
 };
 use indexing::map_class;
 use model::{Side, Symbol};
@@ -22,37 +22,30 @@ use relation::Relation;
 use transitions::TransitionTable;
 
 // Whether a class is there and has these two relations.
-fn is_class(store: &Store, count: u32, class: u32, left: Relation, right: Relation) -> bool
+fn is_class(cache: &Cache, class: u32, left: Relation, right: Relation) -> bool
     requires { class < 1024 }
-    ensures { result ≡ true → IsClass count store.now class left.rows right.rows }
+    ensures { result ≡ true → IsClass (classes cache.now.counts) cache.now.store class left.rows right.rows }
 {
     if class == 0 {
         return false;
     }
-    if count <= class {
+    if cache.counts[0] <= class {
         return false;
     }
-    if !class_rows(store, class, Side::Left).same(left) {
+    if !class_rows(&cache.store, class, Side::Left).same(left) {
         return false;
     }
-    class_rows(store, class, Side::Right).same(right)
+    class_rows(&cache.store, class, Side::Right).same(right)
 }
 
 // A class with these two relations; 1024 where the hints lead to none.
-fn class_found(
-    store: &Store,
-    count: u32,
-    hints: &Hints,
-    hint: usize,
-    left: Relation,
-    right: Relation,
-) -> u32
+fn class_found(cache: &Cache, hint: usize, left: Relation, right: Relation) -> u32
     requires { hint + 4 ≤ 6144 }
-    ensures { result < 1024 → IsClass count store.now result left.rows right.rows }
+    ensures { result < 1024 → IsClass (classes cache.now.counts) cache.now.store result left.rows right.rows }
 {
     for step in 0..4usize {
-        let class = hinted(hints, hint + step);
-        if is_class(store, count, class, left, right) {
+        let class = hinted(&cache.hints, hint + step);
+        if is_class(cache, class, left, right) {
             return class;
         }
     }
@@ -60,34 +53,28 @@ fn class_found(
 }
 
 // The class of two relations: one that is there, or one more; 1024 where there is no room.
-fn class_for(
-    counts: &mut Counts,
-    store: &mut Store,
-    hints: &mut Hints,
-    left: Relation,
-    right: Relation,
-) -> u32
-    ensures { (A : Automaton) (maps cells : List ℕ) → CachedIn A counts.old store.old maps cells
-        → After A counts.old store.old counts.new store.new maps cells
-        × (result < 1024 → IsClass (classes counts.new) store.new result left.rows right.rows) }
+fn class_for(cache: &mut Cache, left: Relation, right: Relation) -> u32
+    ensures { (cache.new.maps ≡ cache.old.maps) × (cache.new.cells ≡ cache.old.cells)
+        × ((A : Automaton) → Cached A cache.old → AfterCall A cache.old cache.new
+        × (result < 1024 → IsClass (classes cache.new.counts) cache.new.store result left.rows right.rows)) }
 {
     let hint = hint_at(0, mixed(mixed(0, left), right));
-    let count = counts[0];
-    let found = class_found(store, count, hints, hint, left, right);
+    let found = class_found(cache, hint, left, right);
     if found < 1024 {
         return found;
     }
-    if counts[3] <= count {
+    let count = cache.counts[0];
+    if cache.counts[3] <= count {
         return 1024;
     }
     if 1023 < count {
         return 1024;
     }
-    put_side(store, count, Side::Left, left);
-    put_side(store, count, Side::Right, right);
-    counts[0] = count + 1;
-    let free = free_hint(hints, hint);
-    hints[free] = count as u16;
+    put_side(&mut cache.store, count, Side::Left, left);
+    put_side(&mut cache.store, count, Side::Right, right);
+    cache.counts[0] = count + 1;
+    let free = free_hint(&cache.hints, hint);
+    cache.hints[free] = count as u16;
     count
 }
 
@@ -119,27 +106,30 @@ fn new_word(
     symbol: Symbol,
     left: u32,
     right: u32,
-    counts: &mut Counts,
-    store: &mut Store,
-    maps: &IndexMaps,
-    cells: &mut Cells,
-    hints: &mut Hints,
+    cache: &mut Cache,
 ) -> u32
     requires { (states ≤ 24) × (symbol.0 < 32) × (left < 1024) × (right < 1024) }
-    ensures { (A : Automaton) → Tabled A states table.now
-        → CachedIn A counts.old store.old maps.now cells.old
-        → left < classes counts.old → right < classes counts.old
-        → After A counts.old store.old counts.new store.new maps.now cells.new
-        × Right A (classes counts.new) store.new symbol.0 left right result }
+    ensures { (cache.new.maps ≡ cache.old.maps)
+        × ((A : Automaton) → Tabled A states table.now → Cached A cache.old → left < classes cache.old.counts → right < classes cache.old.counts
+        → AfterCall A cache.old cache.new
+        × Right A (classes cache.new.counts) cache.new.store symbol.0 left right result) }
 {
-    let l = node_part(table, states, symbol, Side::Left, store, left, right);
-    let r = node_part(table, states, symbol, Side::Right, store, left, right);
-    let class = class_for(counts, store, hints, l.overloops, r.overloops);
+    let l = node_part(table, states, symbol, Side::Left, &cache.store, left, right);
+    let r = node_part(
+        table,
+        states,
+        symbol,
+        Side::Right,
+        &cache.store,
+        left,
+        right,
+    );
+    let class = class_for(cache, l.overloops, r.overloops);
     if 1023 < class {
         return 0;
     }
     let word = word_with(class, l.growth, r.growth);
-    keep(maps, cells, symbol, left, right, word);
+    keep(&cache.maps, &mut cache.cells, symbol, left, right, word);
     word
 }
 
@@ -150,37 +140,20 @@ fn computed(
     symbol: Symbol,
     left: u32,
     right: u32,
-    counts: &mut Counts,
-    store: &mut Store,
-    maps: &mut IndexMaps,
-    cells: &mut Cells,
-    hints: &mut Hints,
+    cache: &mut Cache,
 ) -> u32
     requires { (states ≤ 24) × (symbol.0 < 32) × (left < 1024) × (right < 1024) }
-    ensures { (A : Automaton) → Tabled A states table.now
-        → CachedIn A counts.old store.old maps.old cells.old
-        → left < classes counts.old → right < classes counts.old
-        → After A counts.old store.old counts.new store.new maps.new cells.new
-        × Right A (classes counts.new) store.new symbol.0 left right result }
+    ensures { (A : Automaton) → Tabled A states table.now → Cached A cache.old → left < classes cache.old.counts → right < classes cache.old.counts
+        → AfterCall A cache.old cache.new
+        × Right A (classes cache.new.counts) cache.new.store symbol.0 left right result }
 {
-    map_class(table, symbol, Side::Left, left, counts, store, maps, hints);
-    map_class(
-        table,
-        symbol,
-        Side::Right,
-        right,
-        counts,
-        store,
-        maps,
-        hints,
-    );
-    let word = word_around(maps, cells, symbol, left, right);
+    map_class(table, symbol, Side::Left, left, cache);
+    map_class(table, symbol, Side::Right, right, cache);
+    let word = word_around(&cache.maps, &cache.cells, symbol, left, right);
     if word != 0 {
         return word;
     }
-    new_word(
-        table, states, symbol, left, right, counts, store, maps, cells, hints,
-    )
+    new_word(table, states, symbol, left, right, cache)
 }
 
 // The word of a node over parts of two classes, which names its class and tells its growths; 0 where there is no room for it.
@@ -190,51 +163,30 @@ pub fn node_word(
     symbol: Symbol,
     left: u32,
     right: u32,
-    counts: &mut Counts,
-    store: &mut Store,
-    maps: &mut IndexMaps,
-    cells: &mut Cells,
-    hints: &mut Hints,
+    cache: &mut Cache,
 ) -> u32
     requires { (states ≤ 24) × (symbol.0 < 32) × (left < 1024) × (right < 1024) }
-    ensures { (A : Automaton) → Tabled A states table.now
-        → CachedIn A counts.old store.old maps.old cells.old
-        → left < classes counts.old → right < classes counts.old
-        → After A counts.old store.old counts.new store.new maps.new cells.new
-        × Right A (classes counts.new) store.new symbol.0 left right result }
+    ensures { (A : Automaton) → Tabled A states table.now → Cached A cache.old → left < classes cache.old.counts → right < classes cache.old.counts
+        → AfterCall A cache.old cache.new
+        × Right A (classes cache.new.counts) cache.new.store symbol.0 left right result }
 {
-    let word = word_of(maps, cells, symbol, left, right);
+    let word = word_of(&cache.maps, &cache.cells, symbol, left, right);
     if word != 0 {
         return word;
     }
-    computed(
-        table, states, symbol, left, right, counts, store, maps, cells, hints,
-    )
+    computed(table, states, symbol, left, right, cache)
 }
 
 // The word of a leaf: a node over two parts of class 0. (A function of its own, so that `computed` has two callers and is called where a word is
 // not found, and not copied to where one is.)
-pub fn leaf_word(
-    table: &TransitionTable,
-    states: usize,
-    symbol: Symbol,
-    counts: &mut Counts,
-    store: &mut Store,
-    maps: &mut IndexMaps,
-    cells: &mut Cells,
-    hints: &mut Hints,
-) -> u32
+pub fn leaf_word(table: &TransitionTable, states: usize, symbol: Symbol, cache: &mut Cache) -> u32
     requires { (states ≤ 24) × (symbol.0 < 32) }
-    ensures { (A : Automaton) → Tabled A states table.now
-        → CachedIn A counts.old store.old maps.old cells.old
-        → After A counts.old store.old counts.new store.new maps.new cells.new
-        × Right A (classes counts.new) store.new symbol.0 0 0 result }
+    ensures { (A : Automaton) → Tabled A states table.now → Cached A cache.old → AfterCall A cache.old cache.new
+        × Right A (classes cache.new.counts) cache.new.store symbol.0 0 0 result }
 {
-    let word = word_of(maps, cells, symbol, 0, 0);
+    let word = word_of(&cache.maps, &cache.cells, symbol, 0, 0);
     if word != 0 {
         return word;
     }
-    computed(
-        table, states, symbol, 0, 0, counts, store, maps, cells, hints,
-    )
+    computed(table, states, symbol, 0, 0, cache)
 }

@@ -5,9 +5,10 @@
 
 use generated::families;
 use membership::Answer;
+use refusal::Refusal;
 use sampling::access::number;
 use sampling::random::{chance, draw, seed};
-use sampling::report::{count, labelled, text};
+use sampling::report::{count, differences, judgements, labelled, text};
 use sampling::rules::Automaton;
 use search::{files, trees, walk};
 
@@ -15,7 +16,7 @@ use search::{files, trees, walk};
 const PAIRS: usize = 3000;
 
 // What is said of a pair of files: accepted (0), other (1), or refused (2) with the refusal's number, file and place.
-#[derive(Clone, Copy)]
+#[derive(Clone, Copy, PartialEq, Eq)]
 struct Verdict {
     kind: usize,
     number: usize,
@@ -40,31 +41,33 @@ fn refused(number: usize, file: usize, place: usize) -> Verdict {
     }
 }
 
-fn judged(accepted: bool) -> Verdict {
-    Verdict {
-        kind: if accepted { 0 } else { 1 },
-        number: 0,
-        file: 0,
-        place: 0,
+impl From<bool> for Verdict {
+    fn from(accepted: bool) -> Self {
+        Verdict {
+            kind: if accepted { 0 } else { 1 },
+            number: 0,
+            file: 0,
+            place: 0,
+        }
     }
 }
 
-fn same(a: Verdict, b: Verdict) -> bool {
-    a.kind == b.kind && a.number == b.number && a.file == b.file && a.place == b.place
+impl From<Refusal> for Verdict {
+    fn from(refusal: Refusal) -> Self {
+        refused(
+            refusal.number as usize,
+            refusal.file as usize,
+            refusal.place,
+        )
+    }
 }
 
 // The engine's verdict.
 fn engine(automaton: &[u8], tree: &[u8]) -> Verdict {
     match judging::accepts(automaton, tree) {
-        Answer::Accepted => judged(true),
-        Answer::Other => judged(false),
-        Answer::Refused(refusal) => {
-            refused(
-                refusal.number as usize,
-                refusal.file as usize,
-                refusal.place,
-            )
-        }
+        Ok(Answer::Accepted) => Verdict::from(true),
+        Ok(Answer::Other) => Verdict::from(false),
+        Err(refusal) => Verdict::from(refusal),
     }
 }
 
@@ -104,7 +107,7 @@ fn compare(
     let mut reached = [0u32; 1024];
     let mut automaton = [0u8; 3072];
     let mut tree = [0u8; 4608];
-    let verdict = judged(walk::accepts(a, rules, nodes, size, &mut reached));
+    let verdict = Verdict::from(walk::accepts(a, rules, nodes, size, &mut reached));
     let n = files::write_automaton(&mut automaton, a, rules);
     let k = files::write_tree(&mut tree, nodes, size);
     let expected = damaged(random, &mut automaton, n, &mut tree, k, verdict);
@@ -161,7 +164,7 @@ fn tally(counts: &mut [usize], pair: usize, family: usize) {
     count(counts, family % 8 * 3 + kind);
     count(counts, outcome.shape % 8 * 3 + 32 + kind);
     count(counts, 60 + kind);
-    if !same(expected, outcome.found) {
+    if expected != outcome.found {
         print_difference(counts, pair, outcome);
         count(counts, 63);
     }
@@ -173,33 +176,18 @@ fn run(counts: &mut [usize]) {
     }
 }
 
-// A line with the three counts that start there.
-fn line(label: &[u8], counts: &[usize], at: usize) {
-    let a = at % 64;
-    text(label);
-    labelled(b" accepted=", number(counts, a));
-    labelled(b" other=", number(counts, a + 1));
-    labelled(b" refused=", number(counts, a + 2));
-    text(b"\n");
-}
-
 fn print_families(counts: &[usize]) {
-    line(b"deterministic", counts, 0);
-    line(b"nondeterministic", counts, 3);
-    line(b"all places", counts, 6);
-    line(b"circling", counts, 9);
-    line(b"sided", counts, 12);
-    line(b"counting", counts, 15);
-    line(b"many rules", counts, 18);
-    line(b"few rules", counts, 21);
+    for family in 0..families::FAMILIES {
+        judgements(families::name(family), counts, 3 * family);
+    }
 }
 
 fn print_shapes(counts: &[usize]) {
-    line(b"trees by chance", counts, 32);
-    line(b"left combs", counts, 35);
-    line(b"right combs", counts, 38);
-    line(b"zigzags", counts, 41);
-    line(b"full trees", counts, 44);
+    judgements(b"trees by chance", counts, 32);
+    judgements(b"left combs", counts, 35);
+    judgements(b"right combs", counts, 38);
+    judgements(b"zigzags", counts, 41);
+    judgements(b"full trees", counts, 44);
 }
 
 fn main() {
@@ -207,7 +195,6 @@ fn main() {
     run(&mut counts);
     print_families(&counts);
     print_shapes(&counts);
-    line(b"all", &counts, 60);
-    labelled(b"differences ", number(&counts, 63));
-    text(b"\n");
+    judgements(b"all", &counts, 60);
+    differences(number(&counts, 63));
 }

@@ -1,5 +1,6 @@
 -- Laws of plans in a buffer: one row more; of a verdict, told and written; and of the survey, by the length of the buffer.
 -- Assumes nothing.
+use Rattle.std.proofs.Common.{Ok, Err}
 use Prim.Native.Nat.{ℕ, zero, suc, ◌+◌, ◌*◌, ◌≤◌}
 use mathlib.Core.Path.{◌≡◌, refl, sym, ap, ap₂, ◌∙◌}
 use mathlib.Core.Bool.{Bool, true, false}
@@ -14,7 +15,6 @@ use Rattle.model.specs.Saturation as saturation
 use Rattle.model.specs.Saturation.{WitnessRow}
 use Rattle.model.proofs.Turns.{count_from-snoc}
 use Rattle.refusal.specs.Checks.{refuse_if}
-use Rattle.refusal.specs.declared.Check.{Check}
 use Rattle.refusal.specs.declared.Fault.{Fault}
 use Rattle.refusal.specs.declared.Refusal.{Refusal}
 use Rattle.refusal.proofs.Passed.{clash}
@@ -102,21 +102,21 @@ found-few e f = rw e at f
 -- ---- line 13 of the table
 
 -- a buffer that passes its check
-pub long-enough : (buffer : List ℕ) → buffer_check buffer ≡ Check.Passed → 195 ≤ length buffer
+pub long-enough : (buffer : List ℕ) → buffer_check buffer ≡ Ok tt → 195 ≤ length buffer
 unfolding buffer_check
 long-enough buffer e = by (ltb (length buffer) 195) refl e
   where
-    by : (t : Bool) → ltb (length buffer) 195 ≡ t → refuse_if t Fault.Buffer 2 195 ≡ Check.Passed → 195 ≤ length buffer
+    by : (t : Bool) → ltb (length buffer) 195 ≡ t → refuse_if t Fault.Buffer 2 195 ≡ Ok tt → 195 ≤ length buffer
     by true f p = clash (cc)
     by false f p = ltb-false (length buffer) 195 f
 
 -- the survey, by what line 13 says of the buffer
 module _ (A : Automaton) (before : List ℕ) where
-  pub survey-short : (r : Refusal) → buffer_check before ≡ Check.Refused r → answered (Survey.Refused r) before ≡ surveyed_by A before
+  pub survey-short : (r : Refusal) → buffer_check before ≡ Err r → answered (Err r) before ≡ surveyed_by A before
   unfolding surveyed_by
   survey-short r e = rw e refl
 
-  pub survey-long : (r : Survey) (after : List ℕ) → buffer_check before ≡ Check.Passed → r ≡ survey_of (saturation_of A) → after ≡ written (saturation_of A) before
-      → answered r after ≡ surveyed_by A before
+  pub survey-long : (r : Survey) (after : List ℕ) → buffer_check before ≡ Ok tt → r ≡ survey_of (saturation_of A) → after ≡ written (saturation_of A) before
+      → answered (Ok r) after ≡ surveyed_by A before
   unfolding surveyed_by
-  survey-long r after e f g = rw e (ap₂ answered f g)
+  survey-long r after e f g = rw e (ap₂ (λ (v : Survey) (b : List ℕ). answered (Ok v) b) f g)

@@ -3,7 +3,7 @@ ghost use Rattle.std.specs.Prelude.{◌≡◌, ◌≤◌, length};
 ghost use Rattle.algorithms.specs.Automaton.{Automaton};
 ghost use Rattle.algorithms.specs.Saturate.{saturation_of};
 ghost use Rattle.automaton.specs.File.{WithinLimits};
-ghost use Rattle.overloops.specs.Ready.{Ready};
+ghost use Rattle.classes.specs.Prepared.{ReadyFor};
 ghost use Rattle.emptiness.specs.Surveyed.{buffer_check, answered, survey_of, written, surveyed_by, surveyed};
 ghost use Rattle.emptiness.specs.Checked.{checked_by, checked};
 ghost use Rattle.emptiness.specs.Demand3.{Demand3, Demand3Quick};
@@ -11,36 +11,28 @@ ghost use Rattle.emptiness.specs.Demand3.{Demand3, Demand3Quick};
 use crate::plan::write_plan;
 use crate::{Quick, Survey};
 use approximation::is_clear;
-use automaton::Header;
-use automaton::file::Parsed;
-use overloops::LeafTable;
-use refusal::{Check, Fault, refused};
+use classes::Prepared;
+use refusal::{Fault, Refusal, refused};
 use saturation::{Saturated, saturate};
-use transitions::TransitionTable;
 
 // Line 13.
-fn buffer_check(plan: &[u8]) -> Check
+fn buffer_check(plan: &[u8]) -> Result<(), Refusal>
     ensures { result ≡ buffer_check plan.now }
 {
     if plan.len() < 195 {
         return refused(Fault::Buffer, 2, 195);
     }
-    Check::Passed
+    Ok(())
 }
 
 // The survey of an automaton that was prepared, with a buffer that is long enough.
-fn survey_read(
-    table: &TransitionTable,
-    leaves: &LeafTable,
-    header: Header,
-    plan: &mut [u8],
-) -> Survey
-    requires { WithinLimits header × (195 ≤ length plan.old) }
-    ensures { (A : Automaton) → Ready A header table.now leaves.now
+fn survey_read(prepared: Prepared, plan: &mut [u8]) -> Survey
+    requires { WithinLimits prepared.header × (195 ≤ length plan.old) }
+    ensures { (A : Automaton) → ReadyFor A prepared.entry
         → (result ≡ survey_of (saturation_of A)) × (plan.new ≡ written (saturation_of A) plan.old) }
 {
     let mut kept = [0u32; 3264];
-    match saturate(table, leaves, header, &mut kept) {
+    match saturate(prepared, &mut kept) {
         Saturated::Open(height) => Survey::Open(height),
         Saturated::Empty(height) => Survey::Empty(height),
         Saturated::Found {
@@ -56,41 +48,37 @@ fn survey_read(
 }
 
 // The survey by an automaton that was prepared: where a tree is found, a plan that builds one goes to the front of the buffer.
-pub fn survey_prepared(
-    header: Header,
-    table: &TransitionTable,
-    leaves: &LeafTable,
-    plan: &mut [u8],
-) -> Survey
-    requires { WithinLimits header }
-    ensures { (A : Automaton) → Ready A header table.now leaves.now
+pub fn survey_prepared(prepared: Prepared, plan: &mut [u8]) -> Result<Survey, Refusal>
+    requires { WithinLimits prepared.header }
+    ensures { (A : Automaton) → ReadyFor A prepared.entry
         → answered result plan.new ≡ surveyed_by A plan.old }
 {
-    if let Check::Refused(refusal) = buffer_check(plan) {
-        return Survey::Refused(refusal);
-    }
-    survey_read(table, leaves, header, plan)
+    buffer_check(plan)?;
+    Ok(survey_read(prepared, plan))
 }
 
 // The survey of an automaton's file.
-pub fn survey(file: &[u8], plan: &mut [u8]) -> Survey
+pub fn survey(file: &[u8], plan: &mut [u8]) -> Result<Survey, Refusal>
     ensures equals { answered result plan.new ≡ surveyed file.now plan.old }
     ensures right { Demand3 file.now plan.old (answered result plan.new) }
 {
     let mut table = [0u32; 9216];
     let mut leaves = [0u32; 1536];
-    match overloops::prepare(file, &mut table, &mut leaves) {
-        Parsed::Refused(refusal) => Survey::Refused(refusal),
-        Parsed::Read(header) => survey_prepared(header, &table, &leaves, plan),
-    }
+    let header = overloops::prepare(file, &mut table, &mut leaves)?;
+    let prepared = Prepared {
+        header,
+        table: &table,
+        leaves: &leaves,
+    };
+    survey_prepared(prepared, plan)
 }
 
 // The quick check by an automaton that was prepared.
-pub fn quick_prepared(header: Header, table: &TransitionTable, leaves: &LeafTable) -> Quick
-    requires { WithinLimits header }
-    ensures { (A : Automaton) → Ready A header table.now leaves.now → result ≡ checked_by A }
+pub fn quick_prepared(prepared: Prepared) -> Quick
+    requires { WithinLimits prepared.header }
+    ensures { (A : Automaton) → ReadyFor A prepared.entry → result ≡ checked_by A }
 {
-    if is_clear(table, leaves, header) {
+    if is_clear(prepared) {
         Quick::Clear
     } else {
         Quick::Unsure
@@ -98,14 +86,17 @@ pub fn quick_prepared(header: Header, table: &TransitionTable, leaves: &LeafTabl
 }
 
 // The quick check of an automaton's file.
-pub fn quick(file: &[u8]) -> Quick
+pub fn quick(file: &[u8]) -> Result<Quick, Refusal>
     ensures equals { result ≡ checked file.now }
     ensures right { Demand3Quick file.now result }
 {
     let mut table = [0u32; 9216];
     let mut leaves = [0u32; 1536];
-    match overloops::prepare(file, &mut table, &mut leaves) {
-        Parsed::Refused(refusal) => Quick::Refused(refusal),
-        Parsed::Read(header) => quick_prepared(header, &table, &leaves),
-    }
+    let header = overloops::prepare(file, &mut table, &mut leaves)?;
+    let prepared = Prepared {
+        header,
+        table: &table,
+        leaves: &leaves,
+    };
+    Ok(quick_prepared(prepared))
 }

@@ -5,21 +5,17 @@
 pub mod file;
 mod plan;
 
-use refusal::Refusal;
-
-// What the survey answers: a height, with the number of rows of the plan where a tree was found; or a refusal.
+// What the survey answers: a height, with the number of rows of the plan where a tree was found.
 #[derive(Clone, Copy)]
 pub enum Survey {
     Found { height: usize, rows: usize },
     Open(usize),
     Empty(usize),
-    Refused(Refusal),
 }
 
-// What the quick check answers: no tree is accepted, or that is not known; or a refusal.
+// What the quick check answers: no tree is accepted, or that is not known.
 #[derive(Clone, Copy)]
 pub enum Quick {
     Clear,
     Unsure,
-    Refused(Refusal),
 }

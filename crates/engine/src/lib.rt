@@ -30,11 +30,9 @@ ghost use Rattle.watch.specs.Promise as watch-spec;
 ghost use Rattle.logs.specs.Compare.{compared_of, part_of, told_of};
 ghost use Rattle.logs.specs.Promise as logs-spec;
 
-use answers::Judgement;
-use block_writer::Written;
 use determinism::Singleness;
 use membership::{Answer, Judged};
-use refusal::Check;
+use refusal::Refusal;
 use tally::{Outcome, Tallied, Tally};
 use watch::Watched;
 
@@ -48,7 +46,7 @@ pub fn judge(automaton: &[u8], tree: &[u8]) -> Judged
 }
 
 // The same answer without the sum, which takes less time.
-pub fn accepts(automaton: &[u8], tree: &[u8]) -> Answer
+pub fn accepts(automaton: &[u8], tree: &[u8]) -> Result<Answer, Refusal>
     ensures equals { result ≡ judged automaton.now tree.now }
     ensures right { Demand2 automaton.now tree.now result }
 {
@@ -62,7 +60,7 @@ pub fn judge_all(
     trees: &[u8],
     numbers: &mut [usize],
     growths: &mut [usize],
-) -> Judgement
+) -> Result<usize, Refusal>
     ensures equals { all-spec.outcome result numbers.new growths.new
         ≡ all-spec.judged_all automaton.now trees.now numbers.old growths.old }
     ensures right { all-spec.Each automaton.now trees.now (all-spec.outcome result numbers.new growths.new) }
@@ -71,7 +69,7 @@ pub fn judge_all(
 }
 
 // Looks for a tree that an automaton's file accepts: where one is found, a plan that builds it goes to the front of the buffer.
-pub fn survey(file: &[u8], plan: &mut [u8]) -> emptiness::Survey
+pub fn survey(file: &[u8], plan: &mut [u8]) -> Result<emptiness::Survey, Refusal>
     ensures equals { answered result plan.new ≡ surveyed file.now plan.old }
     ensures right { Demand3 file.now plan.old (answered result plan.new) }
 {
@@ -79,7 +77,7 @@ pub fn survey(file: &[u8], plan: &mut [u8]) -> emptiness::Survey
 }
 
 // The tree that a plan builds, as a tree's file at the front of the output: the plan that a survey of the automaton's file found, or any other.
-pub fn witness(file: &[u8], plan: &[u8], out: &mut [u8]) -> Written
+pub fn witness(file: &[u8], plan: &[u8], out: &mut [u8]) -> Result<usize, Refusal>
     ensures equals { filled result out.new ≡ witness_of file.now plan.now out.old }
     ensures right { witness-spec.Promise file.now plan.now out.old (filled result out.new) }
 {
@@ -87,7 +85,7 @@ pub fn witness(file: &[u8], plan: &[u8], out: &mut [u8]) -> Written
 }
 
 // The quick check of an automaton's file.
-pub fn quick(file: &[u8]) -> emptiness::Quick
+pub fn quick(file: &[u8]) -> Result<emptiness::Quick, Refusal>
     ensures equals { result ≡ checked file.now }
     ensures right { Demand3Quick file.now result }
 {
@@ -95,7 +93,7 @@ pub fn quick(file: &[u8]) -> emptiness::Quick
 }
 
 // Whether the automaton of a file is single: its rules, equal ones taken once, are one at the most for each symbol, state and place.
-pub fn single(file: &[u8]) -> Singleness
+pub fn single(file: &[u8]) -> Result<Singleness, Refusal>
     ensures equals { result ≡ single_of file.now }
     ensures right { SingleRight file.now result }
 {
@@ -103,7 +101,7 @@ pub fn single(file: &[u8]) -> Singleness
 }
 
 // An automaton's file in its one form, at the front of the output: place 3 spread, repeats dropped, the rules in rising order of their five bytes.
-pub fn canonical(file: &[u8], out: &mut [u8]) -> Written
+pub fn canonical(file: &[u8], out: &mut [u8]) -> Result<usize, Refusal>
     ensures equals { filled result out.new ≡ canonical_of file.now out.old }
     ensures right { canonical-spec.Promise file.now out.old (filled result out.new) }
 {
@@ -111,7 +109,7 @@ pub fn canonical(file: &[u8], out: &mut [u8]) -> Written
 }
 
 // The tree of an element text, as a tree's file at the front of the output: the text's tags are branch symbols of the automaton's file.
-pub fn markup(file: &[u8], text: &[u8], out: &mut [u8]) -> Written
+pub fn markup(file: &[u8], text: &[u8], out: &mut [u8]) -> Result<usize, Refusal>
     ensures equals { filled result out.new ≡ markup_of file.now text.now out.old }
     ensures right { markup-spec.Promise file.now text.now out.old (filled result out.new) }
 {
@@ -120,7 +118,12 @@ pub fn markup(file: &[u8], text: &[u8], out: &mut [u8]) -> Written
 
 // Follows the run of an automaton's file on a tree's file, for at most so many steps; an entry of three bytes for each configuration goes to the
 // front of the log. The automaton is single and has one start state.
-pub fn watch(automaton: &[u8], tree: &[u8], budget: usize, log: &mut [u8]) -> Watched
+pub fn watch(
+    automaton: &[u8],
+    tree: &[u8],
+    budget: usize,
+    log: &mut [u8],
+) -> Result<Watched, Refusal>
     ensures equals { outcome result log.new ≡ watch_of automaton.now tree.now budget log.old }
     ensures right { watch-spec.Promise automaton.now tree.now budget log.old (outcome result log.new) }
 {
@@ -147,7 +150,7 @@ pub fn compare<'a, 'b>(
 }
 
 // The lent tally counts one outcome more; or, where it is full, stays as it was, and refusal 14 is the answer.
-pub fn count(tally: &mut Tally, outcome: Outcome) -> Check
+pub fn count(tally: &mut Tally, outcome: Outcome) -> Result<(), Refusal>
     ensures { (tally.new ≡ (counted_up tally.old outcome).tally)
         × (result ≡ (counted_up tally.old outcome).check) }
 {

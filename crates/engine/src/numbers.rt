@@ -1,10 +1,9 @@
 // The engine's functions for Rust and C, on numbers and bytes; bindings/engine.h has their C declarations. Each answers a number, and leaves
 // three more in `told`: those of the answer, or of a refusal its number, file and place; what is missing is 0. `right` says that these are
 // the numbers of an answer that meets the demand.
-ghost use Rattle.std.specs.Prelude.{◌≡◌, length};
+ghost use Rattle.std.specs.Prelude.{◌≡◌, length, Result, ℕ};
 ghost use Rattle.membership.specs.Judged.{judged};
 ghost use Rattle.answers.specs.All as all-spec;
-ghost use Rattle.answers.specs.declared.Judgement.{Judgement};
 ghost use Rattle.membership.specs.Demand2.{Demand2};
 ghost use Rattle.membership.specs.Grown.{judged_with, GrowthRight};
 ghost use Rattle.emptiness.specs.Surveyed.{answered, surveyed};
@@ -29,9 +28,9 @@ ghost use Rattle.watch.specs.Promise as watch-spec;
 ghost use Rattle.agreement.specs.Common.{common_part};
 ghost use Rattle.logs.specs.Compare.{compared_of, part_of, told_of};
 ghost use Rattle.logs.specs.Promise as logs-spec;
-ghost use Rattle.numbering.specs.Numbers.{answer_number, answer_told, growth_numbers, judgement_number, judgement_told, survey_number, survey_told, quick_number, quick_told, single_number, single_told, written_number, written_told, watch_number, watch_told, compared_number, compared_counts, compared_told, outcome_numbered, tally_of, tally_numbers, check_number, check_told, judged_tally};
+ghost use Rattle.refusal.specs.declared.Refusal.{Refusal};
+ghost use Rattle.numbering.specs.Numbers.{answer_number, answer_told, growth_numbers, survey_number, survey_told, quick_number, quick_told, single_number, single_told, count_number, count_told, watch_number, watch_told, compared_number, compared_counts, compared_told, outcome_numbered, tally_of, tally_numbers, check_number, check_told, judged_tally};
 
-use block_writer::Written;
 use determinism::Singleness;
 use emptiness::{Quick, Survey};
 use logs::Compared;
@@ -60,7 +59,7 @@ pub fn engine_judge(
 pub fn engine_accepts(automaton: &[u8], tree: &[u8], told: &mut [usize; 3]) -> u32
     ensures equals { (result ≡ answer_number (judged automaton.now tree.now))
         × (told.new ≡ answer_told (judged automaton.now tree.now)) }
-    ensures right { (a : Answer) × (result ≡ answer_number a) × (told.new ≡ answer_told a)
+    ensures right { (a : Result Answer Refusal) × (result ≡ answer_number a) × (told.new ≡ answer_told a)
         × Demand2 automaton.now tree.now a }
 {
     numbering::put_answer(crate::accepts(automaton, tree), told)
@@ -74,14 +73,14 @@ pub fn engine_judge_all(
     growths: &mut [usize],
     told: &mut [usize; 3],
 ) -> u32
-    ensures equals { (result ≡ judgement_number (all-spec.judged_all automaton.now trees.now answers.old growths.old).judgement)
-        × (told.new ≡ judgement_told (all-spec.judged_all automaton.now trees.now answers.old growths.old).judgement)
+    ensures equals { (result ≡ count_number (all-spec.judged_all automaton.now trees.now answers.old growths.old).judgement)
+        × (told.new ≡ count_told (all-spec.judged_all automaton.now trees.now answers.old growths.old).judgement)
         × (answers.new ≡ (all-spec.judged_all automaton.now trees.now answers.old growths.old).numbers)
         × (growths.new ≡ (all-spec.judged_all automaton.now trees.now answers.old growths.old).growths) }
-    ensures right { (j : Judgement) × (result ≡ judgement_number j) × (told.new ≡ judgement_told j)
+    ensures right { (j : Result ℕ Refusal) × (result ≡ count_number j) × (told.new ≡ count_told j)
         × all-spec.Each automaton.now trees.now (all-spec.outcome j answers.new growths.new) }
 {
-    numbering::put_judgement(crate::judge_all(automaton, trees, answers, growths), told)
+    numbering::put_count(crate::judge_all(automaton, trees, answers, growths), told)
 }
 
 // Looks for a tree that an automaton's file accepts; the plan goes to the front of the buffer.
@@ -89,7 +88,7 @@ pub fn engine_survey(file: &[u8], plan: &mut [u8], told: &mut [usize; 3]) -> u32
     ensures equals { (result ≡ survey_number (surveyed file.now plan.old).answer)
         × (told.new ≡ survey_told (surveyed file.now plan.old).answer)
         × (plan.new ≡ (surveyed file.now plan.old).buffer) }
-    ensures right { (a : Survey) × (result ≡ survey_number a) × (told.new ≡ survey_told a)
+    ensures right { (a : Result Survey Refusal) × (result ≡ survey_number a) × (told.new ≡ survey_told a)
         × Demand3 file.now plan.old (answered a plan.new) }
 {
     numbering::put_survey(crate::survey(file, plan), told)
@@ -97,19 +96,19 @@ pub fn engine_survey(file: &[u8], plan: &mut [u8], told: &mut [usize; 3]) -> u32
 
 // The tree that a plan builds, as a tree's file at the front of the output.
 pub fn engine_witness(file: &[u8], plan: &[u8], out: &mut [u8], told: &mut [usize; 3]) -> u32
-    ensures equals { (result ≡ written_number (witness_of file.now plan.now out.old).answer)
-        × (told.new ≡ written_told (witness_of file.now plan.now out.old).answer)
+    ensures equals { (result ≡ count_number (witness_of file.now plan.now out.old).answer)
+        × (told.new ≡ count_told (witness_of file.now plan.now out.old).answer)
         × (out.new ≡ (witness_of file.now plan.now out.old).out) }
-    ensures right { (a : Written) × (result ≡ written_number a) × (told.new ≡ written_told a)
+    ensures right { (a : Result ℕ Refusal) × (result ≡ count_number a) × (told.new ≡ count_told a)
         × witness-spec.Promise file.now plan.now out.old (filled a out.new) }
 {
-    numbering::put_written(crate::witness(file, plan, out), told)
+    numbering::put_count(crate::witness(file, plan, out), told)
 }
 
 // The quick check of an automaton's file.
 pub fn engine_quick(file: &[u8], told: &mut [usize; 3]) -> u32
     ensures equals { (result ≡ quick_number (checked file.now)) × (told.new ≡ quick_told (checked file.now)) }
-    ensures right { (a : Quick) × (result ≡ quick_number a) × (told.new ≡ quick_told a) × Demand3Quick file.now a }
+    ensures right { (a : Result Quick Refusal) × (result ≡ quick_number a) × (told.new ≡ quick_told a) × Demand3Quick file.now a }
 {
     numbering::put_quick(crate::quick(file), told)
 }
@@ -117,31 +116,31 @@ pub fn engine_quick(file: &[u8], told: &mut [usize; 3]) -> u32
 // Whether the automaton of a file is single.
 pub fn engine_single(file: &[u8], told: &mut [usize; 3]) -> u32
     ensures equals { (result ≡ single_number (single_of file.now)) × (told.new ≡ single_told (single_of file.now)) }
-    ensures right { (a : Singleness) × (result ≡ single_number a) × (told.new ≡ single_told a) × SingleRight file.now a }
+    ensures right { (a : Result Singleness Refusal) × (result ≡ single_number a) × (told.new ≡ single_told a) × SingleRight file.now a }
 {
     numbering::put_single(crate::single(file), told)
 }
 
 // An automaton's file in its one form, at the front of the output.
 pub fn engine_canonical(file: &[u8], out: &mut [u8], told: &mut [usize; 3]) -> u32
-    ensures equals { (result ≡ written_number (canonical_of file.now out.old).answer)
-        × (told.new ≡ written_told (canonical_of file.now out.old).answer)
+    ensures equals { (result ≡ count_number (canonical_of file.now out.old).answer)
+        × (told.new ≡ count_told (canonical_of file.now out.old).answer)
         × (out.new ≡ (canonical_of file.now out.old).out) }
-    ensures right { (a : Written) × (result ≡ written_number a) × (told.new ≡ written_told a)
+    ensures right { (a : Result ℕ Refusal) × (result ≡ count_number a) × (told.new ≡ count_told a)
         × canonical-spec.Promise file.now out.old (filled a out.new) }
 {
-    numbering::put_written(crate::canonical(file, out), told)
+    numbering::put_count(crate::canonical(file, out), told)
 }
 
 // The tree of an element text, as a tree's file at the front of the output.
 pub fn engine_markup(file: &[u8], text: &[u8], out: &mut [u8], told: &mut [usize; 3]) -> u32
-    ensures equals { (result ≡ written_number (markup_of file.now text.now out.old).answer)
-        × (told.new ≡ written_told (markup_of file.now text.now out.old).answer)
+    ensures equals { (result ≡ count_number (markup_of file.now text.now out.old).answer)
+        × (told.new ≡ count_told (markup_of file.now text.now out.old).answer)
         × (out.new ≡ (markup_of file.now text.now out.old).out) }
-    ensures right { (a : Written) × (result ≡ written_number a) × (told.new ≡ written_told a)
+    ensures right { (a : Result ℕ Refusal) × (result ≡ count_number a) × (told.new ≡ count_told a)
         × markup-spec.Promise file.now text.now out.old (filled a out.new) }
 {
-    numbering::put_written(crate::markup(file, text, out), told)
+    numbering::put_count(crate::markup(file, text, out), told)
 }
 
 // Follows the run of a single automaton with one start state on a tree, and logs it at the front of the buffer.
@@ -155,7 +154,7 @@ pub fn engine_watch(
     ensures equals { (result ≡ watch_number (watch_of automaton.now tree.now budget log.old).answer)
         × (told.new ≡ watch_told (watch_of automaton.now tree.now budget log.old).answer)
         × (log.new ≡ (watch_of automaton.now tree.now budget log.old).log) }
-    ensures right { (a : Watched) × (result ≡ watch_number a) × (told.new ≡ watch_told a)
+    ensures right { (a : Result Watched Refusal) × (result ≡ watch_number a) × (told.new ≡ watch_told a)
         × watch-spec.Promise automaton.now tree.now budget log.old (outcome a log.new) }
 {
     numbering::put_watched(crate::watch(automaton, tree, budget, log), told)
@@ -175,7 +174,7 @@ pub fn engine_compare(
         × (counts.new ≡ compared_counts (compared_of automaton.now tree.now first.now second.now)
         (length (common_part first.now second.now)))
         × (told.new ≡ compared_told (compared_of automaton.now tree.now first.now second.now)) }
-    ensures right { (a : Compared) × (result ≡ compared_number a) × (counts.new ≡ compared_counts a (length (part_of a first.now second.now)))
+    ensures right { (a : Result Compared Refusal) × (result ≡ compared_number a) × (counts.new ≡ compared_counts a (length (part_of a first.now second.now)))
         × (told.new ≡ compared_told a)
         × logs-spec.Promise automaton.now tree.now first.now second.now
         (part_of a first.now second.now) (told_of a) }

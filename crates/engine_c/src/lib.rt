@@ -2,10 +2,9 @@
 // A library of Rattle exports nothing, so that each stands here again, with its clauses.
 #![tactic(auto)]
 
-ghost use Rattle.std.specs.Prelude.{◌≡◌, length};
+ghost use Rattle.std.specs.Prelude.{◌≡◌, length, Result, ℕ};
 ghost use Rattle.membership.specs.Judged.{judged};
 ghost use Rattle.answers.specs.All as all-spec;
-ghost use Rattle.answers.specs.declared.Judgement.{Judgement};
 ghost use Rattle.membership.specs.Demand2.{Demand2};
 ghost use Rattle.membership.specs.Grown.{judged_with, GrowthRight};
 ghost use Rattle.emptiness.specs.Surveyed.{answered, surveyed};
@@ -30,9 +29,9 @@ ghost use Rattle.watch.specs.Promise as watch-spec;
 ghost use Rattle.agreement.specs.Common.{common_part};
 ghost use Rattle.logs.specs.Compare.{compared_of, part_of, told_of};
 ghost use Rattle.logs.specs.Promise as logs-spec;
-ghost use Rattle.numbering.specs.Numbers.{answer_number, answer_told, growth_numbers, judgement_number, judgement_told, survey_number, survey_told, quick_number, quick_told, single_number, single_told, written_number, written_told, watch_number, watch_told, compared_number, compared_counts, compared_told, outcome_numbered, tally_of, tally_numbers, check_number, check_told, judged_tally};
+ghost use Rattle.refusal.specs.declared.Refusal.{Refusal};
+ghost use Rattle.numbering.specs.Numbers.{answer_number, answer_told, growth_numbers, survey_number, survey_told, quick_number, quick_told, single_number, single_told, count_number, count_told, watch_number, watch_told, compared_number, compared_counts, compared_told, outcome_numbered, tally_of, tally_numbers, check_number, check_told, judged_tally};
 
-use block_writer::Written;
 use determinism::Singleness;
 use emptiness::{Quick, Survey};
 use logs::Compared;
@@ -62,7 +61,7 @@ pub extern "C" fn engine_judge(
 pub extern "C" fn engine_accepts(automaton: &[u8], tree: &[u8], told: &mut [usize; 3]) -> u32
     ensures equals { (result ≡ answer_number (judged automaton.now tree.now))
         × (told.new ≡ answer_told (judged automaton.now tree.now)) }
-    ensures right { (a : Answer) × (result ≡ answer_number a) × (told.new ≡ answer_told a)
+    ensures right { (a : Result Answer Refusal) × (result ≡ answer_number a) × (told.new ≡ answer_told a)
         × Demand2 automaton.now tree.now a }
 {
     engine::numbers::engine_accepts(automaton, tree, told)
@@ -77,11 +76,11 @@ pub extern "C" fn engine_judge_all(
     growths: &mut [usize],
     told: &mut [usize; 3],
 ) -> u32
-    ensures equals { (result ≡ judgement_number (all-spec.judged_all automaton.now trees.now answers.old growths.old).judgement)
-        × (told.new ≡ judgement_told (all-spec.judged_all automaton.now trees.now answers.old growths.old).judgement)
+    ensures equals { (result ≡ count_number (all-spec.judged_all automaton.now trees.now answers.old growths.old).judgement)
+        × (told.new ≡ count_told (all-spec.judged_all automaton.now trees.now answers.old growths.old).judgement)
         × (answers.new ≡ (all-spec.judged_all automaton.now trees.now answers.old growths.old).numbers)
         × (growths.new ≡ (all-spec.judged_all automaton.now trees.now answers.old growths.old).growths) }
-    ensures right { (j : Judgement) × (result ≡ judgement_number j) × (told.new ≡ judgement_told j)
+    ensures right { (j : Result ℕ Refusal) × (result ≡ count_number j) × (told.new ≡ count_told j)
         × all-spec.Each automaton.now trees.now (all-spec.outcome j answers.new growths.new) }
 {
     engine::numbers::engine_judge_all(automaton, trees, answers, growths, told)
@@ -93,7 +92,7 @@ pub extern "C" fn engine_survey(file: &[u8], plan: &mut [u8], told: &mut [usize;
     ensures equals { (result ≡ survey_number (surveyed file.now plan.old).answer)
         × (told.new ≡ survey_told (surveyed file.now plan.old).answer)
         × (plan.new ≡ (surveyed file.now plan.old).buffer) }
-    ensures right { (a : Survey) × (result ≡ survey_number a) × (told.new ≡ survey_told a)
+    ensures right { (a : Result Survey Refusal) × (result ≡ survey_number a) × (told.new ≡ survey_told a)
         × Demand3 file.now plan.old (answered a plan.new) }
 {
     engine::numbers::engine_survey(file, plan, told)
@@ -107,10 +106,10 @@ pub extern "C" fn engine_witness(
     out: &mut [u8],
     told: &mut [usize; 3],
 ) -> u32
-    ensures equals { (result ≡ written_number (witness_of file.now plan.now out.old).answer)
-        × (told.new ≡ written_told (witness_of file.now plan.now out.old).answer)
+    ensures equals { (result ≡ count_number (witness_of file.now plan.now out.old).answer)
+        × (told.new ≡ count_told (witness_of file.now plan.now out.old).answer)
         × (out.new ≡ (witness_of file.now plan.now out.old).out) }
-    ensures right { (a : Written) × (result ≡ written_number a) × (told.new ≡ written_told a)
+    ensures right { (a : Result ℕ Refusal) × (result ≡ count_number a) × (told.new ≡ count_told a)
         × witness-spec.Promise file.now plan.now out.old (filled a out.new) }
 {
     engine::numbers::engine_witness(file, plan, out, told)
@@ -120,7 +119,7 @@ pub extern "C" fn engine_witness(
 #[unsafe(no_mangle)]
 pub extern "C" fn engine_quick(file: &[u8], told: &mut [usize; 3]) -> u32
     ensures equals { (result ≡ quick_number (checked file.now)) × (told.new ≡ quick_told (checked file.now)) }
-    ensures right { (a : Quick) × (result ≡ quick_number a) × (told.new ≡ quick_told a) × Demand3Quick file.now a }
+    ensures right { (a : Result Quick Refusal) × (result ≡ quick_number a) × (told.new ≡ quick_told a) × Demand3Quick file.now a }
 {
     engine::numbers::engine_quick(file, told)
 }
@@ -129,7 +128,7 @@ pub extern "C" fn engine_quick(file: &[u8], told: &mut [usize; 3]) -> u32
 #[unsafe(no_mangle)]
 pub extern "C" fn engine_single(file: &[u8], told: &mut [usize; 3]) -> u32
     ensures equals { (result ≡ single_number (single_of file.now)) × (told.new ≡ single_told (single_of file.now)) }
-    ensures right { (a : Singleness) × (result ≡ single_number a) × (told.new ≡ single_told a) × SingleRight file.now a }
+    ensures right { (a : Result Singleness Refusal) × (result ≡ single_number a) × (told.new ≡ single_told a) × SingleRight file.now a }
 {
     engine::numbers::engine_single(file, told)
 }
@@ -137,10 +136,10 @@ pub extern "C" fn engine_single(file: &[u8], told: &mut [usize; 3]) -> u32
 // An automaton's file in its one form, at the front of the output.
 #[unsafe(no_mangle)]
 pub extern "C" fn engine_canonical(file: &[u8], out: &mut [u8], told: &mut [usize; 3]) -> u32
-    ensures equals { (result ≡ written_number (canonical_of file.now out.old).answer)
-        × (told.new ≡ written_told (canonical_of file.now out.old).answer)
+    ensures equals { (result ≡ count_number (canonical_of file.now out.old).answer)
+        × (told.new ≡ count_told (canonical_of file.now out.old).answer)
         × (out.new ≡ (canonical_of file.now out.old).out) }
-    ensures right { (a : Written) × (result ≡ written_number a) × (told.new ≡ written_told a)
+    ensures right { (a : Result ℕ Refusal) × (result ≡ count_number a) × (told.new ≡ count_told a)
         × canonical-spec.Promise file.now out.old (filled a out.new) }
 {
     engine::numbers::engine_canonical(file, out, told)
@@ -154,10 +153,10 @@ pub extern "C" fn engine_markup(
     out: &mut [u8],
     told: &mut [usize; 3],
 ) -> u32
-    ensures equals { (result ≡ written_number (markup_of file.now text.now out.old).answer)
-        × (told.new ≡ written_told (markup_of file.now text.now out.old).answer)
+    ensures equals { (result ≡ count_number (markup_of file.now text.now out.old).answer)
+        × (told.new ≡ count_told (markup_of file.now text.now out.old).answer)
         × (out.new ≡ (markup_of file.now text.now out.old).out) }
-    ensures right { (a : Written) × (result ≡ written_number a) × (told.new ≡ written_told a)
+    ensures right { (a : Result ℕ Refusal) × (result ≡ count_number a) × (told.new ≡ count_told a)
         × markup-spec.Promise file.now text.now out.old (filled a out.new) }
 {
     engine::numbers::engine_markup(file, text, out, told)
@@ -175,7 +174,7 @@ pub extern "C" fn engine_watch(
     ensures equals { (result ≡ watch_number (watch_of automaton.now tree.now budget log.old).answer)
         × (told.new ≡ watch_told (watch_of automaton.now tree.now budget log.old).answer)
         × (log.new ≡ (watch_of automaton.now tree.now budget log.old).log) }
-    ensures right { (a : Watched) × (result ≡ watch_number a) × (told.new ≡ watch_told a)
+    ensures right { (a : Result Watched Refusal) × (result ≡ watch_number a) × (told.new ≡ watch_told a)
         × watch-spec.Promise automaton.now tree.now budget log.old (outcome a log.new) }
 {
     engine::numbers::engine_watch(automaton, tree, budget, log, told)
@@ -196,7 +195,7 @@ pub extern "C" fn engine_compare(
         × (counts.new ≡ compared_counts (compared_of automaton.now tree.now first.now second.now)
         (length (common_part first.now second.now)))
         × (told.new ≡ compared_told (compared_of automaton.now tree.now first.now second.now)) }
-    ensures right { (a : Compared) × (result ≡ compared_number a) × (counts.new ≡ compared_counts a (length (part_of a first.now second.now)))
+    ensures right { (a : Result Compared Refusal) × (result ≡ compared_number a) × (counts.new ≡ compared_counts a (length (part_of a first.now second.now)))
         × (told.new ≡ compared_told a)
         × logs-spec.Promise automaton.now tree.now first.now second.now
         (part_of a first.now second.now) (told_of a) }

@@ -6,9 +6,10 @@
 
 use emptiness::{Quick, Survey};
 use enumerated::{lists, plan};
+use refusal::Refusal;
 use sampling::access::number;
 use sampling::random::seed;
-use sampling::report::{labelled, text};
+use sampling::report::{differences, labelled, text};
 use sampling::rules::Automaton;
 use search::files;
 use transformations::Outcome;
@@ -22,7 +23,7 @@ const AUTOMATA: usize = 1000;
 const ALL: usize = AUTOMATA * small::FAMILIES;
 
 // The survey with the front of the buffer.
-fn survey(file: &[u8], buffer: &mut [u8], room: usize) -> Survey {
+fn survey(file: &[u8], buffer: &mut [u8], room: usize) -> Result<Survey, Refusal> {
     if room <= buffer.len() {
         emptiness::file::survey(file, &mut buffer[..room])
     } else {
@@ -35,13 +36,12 @@ fn right(
     a: Automaton,
     rules: &[u8],
     e: Expected,
-    answer: Survey,
-    quick: Quick,
+    answer: Result<Survey, Refusal>,
+    quick: Result<Quick, Refusal>,
     buffer: &[u8],
     salt: usize,
 ) -> bool {
-    let refusal = e.survey;
-    if refusal.number != 0 {
+    if let Some(refusal) = e.survey {
         return checks::survey_refused(answer, refusal, buffer, salt)
             && checks::quick_refused(quick, e.file);
     }
@@ -81,7 +81,7 @@ fn one(k: usize, family: usize) -> Outcome {
     let a = small::make(&mut random, &mut rules, family);
     let n = files::write_automaton(&mut file, a, &rules);
     let refusal = expected::damaged(&mut random, &mut file, n);
-    let room = expected::room_of(&mut random, refusal.number != 0);
+    let room = expected::room_of(&mut random, refusal.is_some());
     let e = expected::of(refusal, room);
     compare(a, &rules, files::front(&file, n), e, &mut buffer, room, k)
 }
@@ -120,7 +120,7 @@ fn run_functions(counts: &mut [usize], heights: &[usize]) {
     text(b"\n");
     let full = transformations::full_height(heights);
     match answer {
-        Survey::Open(h) => {
+        Ok(Survey::Open(h)) => {
             if h != full {
                 counts::differ(counts, ALL + 64, answer);
             }
@@ -138,6 +138,5 @@ fn main() {
     counts::print_families(&counts);
     counts::print_heights(&counts);
     run_functions(&mut counts, &heights);
-    labelled(b"differences ", number(&counts, 64));
-    text(b"\n");
+    differences(number(&counts, 64));
 }

@@ -2,20 +2,8 @@
 // output. Where there is none, or the output is lost, a line on standard error says why (tools/example makes a status of it).
 #![tactic(auto)]
 
-use block_writer::Written;
 use emptiness::Survey;
-use refusal::Refusal;
-
-fn say(words: &[u8], n: usize) {
-    io::write_all(2, words);
-    io::print_decimal(2, n as u64);
-}
-
-fn say_refused(words: &[u8], refusal: Refusal) {
-    say(words, refusal.number as usize);
-    say(b" place=", refusal.place);
-    io::write_all(2, b"\n");
-}
+use telling::{hand_over, say, say_refused_at};
 
 fn say_height(words: &[u8], height: usize) {
     say(words, height);
@@ -31,28 +19,27 @@ fn rows_front(plan: &[u8], n: usize) -> &[u8] {
     }
 }
 
-fn print_tree(file: &[u8]) {
-    if !io::write_all(1, file) {
-        io::write_all(2, b"example: output lost\n");
-    }
-}
-
 // The plan's tree. A tree's file has at most 4,608 bytes, so that 13 is not met.
 fn write_tree(file: &[u8], plan: &[u8]) {
     let mut out = [0u8; 4608];
     match witness::file::write(file, plan, &mut out) {
-        Written::Bytes(n) => print_tree(blocks::front(&out, n)),
-        Written::Refused(refusal) => say_refused(b"example: plan refused=", refusal),
+        Ok(n) => {
+            hand_over(blocks::front(&out, n), b"example: output lost\n");
+        }
+        Err(refusal) => say_refused_at(b"example: plan refused=", refusal),
     }
 }
 
 fn write_found(file: &[u8]) {
     let mut plan = [0u8; 195];
     match emptiness::file::survey(file, &mut plan) {
-        Survey::Found { height: _, rows } => write_tree(file, rows_front(&plan, rows)),
-        Survey::Open(height) => say_height(b"example: none found: survey open height=", height),
-        Survey::Empty(height) => say_height(b"example: none passes: survey empty height=", height),
-        Survey::Refused(refusal) => say_refused(b"example: walker refused=", refusal),
+        Ok(Survey::Found { height: _, rows }) => write_tree(file, rows_front(&plan, rows)),
+        Ok(Survey::Open(height)) => say_height(b"example: none found: survey open height=", height),
+        Ok(Survey::Empty(height)) => say_height(
+            b"example: none passes: survey empty height=",
+            height,
+        ),
+        Err(refusal) => say_refused_at(b"example: walker refused=", refusal),
     }
 }
 

@@ -8,7 +8,7 @@ use sampling::rules::Automaton;
 pub const REFUSED: usize = 4;
 
 // How a run ends and its steps or, kind 4, a refusal's number, file and place.
-#[derive(Clone, Copy)]
+#[derive(Clone, Copy, PartialEq, Eq)]
 pub struct Expected {
     pub kind: usize,
     pub steps: usize,

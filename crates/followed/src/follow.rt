@@ -21,7 +21,7 @@ pub struct Ending {
     pub steps: usize,
 }
 
-#[derive(Clone, Copy)]
+#[derive(Clone, Copy, PartialEq, Eq)]
 pub struct Position {
     pub node: usize,
     pub state: usize,

@@ -4,13 +4,13 @@
 
 pub mod counts;
 
-use block_writer::Written;
 use enumerated::plan;
 use forms::Expected;
-use sampling::access::byte;
+use refusal::Refusal;
+use sampling::access::same_bytes;
 
 // Writes into the front of the output.
-fn write(file: &[u8], out: &mut [u8], room: usize) -> Written {
+fn write(file: &[u8], out: &mut [u8], room: usize) -> Result<usize, Refusal> {
     if room <= out.len() {
         canonical::write(file, &mut out[..room])
     } else {
@@ -18,26 +18,22 @@ fn write(file: &[u8], out: &mut [u8], room: usize) -> Written {
     }
 }
 
-// Whether the first n bytes of two buffers are the same.
-fn same_bytes(a: &[u8], b: &[u8], n: usize) -> bool {
-    for i in 0..n {
-        if byte(a, i) != byte(b, i) {
-            return false;
-        }
-    }
-    true
-}
-
 // Whether the answer and the output afterwards are right.
-fn right(answer: Written, e: Expected, form_file: &[u8], out: &[u8], salt: usize) -> bool {
+fn right(
+    answer: Result<usize, Refusal>,
+    e: Expected,
+    form_file: &[u8],
+    out: &[u8],
+    salt: usize,
+) -> bool {
     match answer {
-        Written::Refused(refusal) => {
+        Err(refusal) => {
             refusal.number as usize == e.number
                 && refusal.file as usize == e.file
                 && refusal.place == e.place
                 && plan::unchanged(out, 0, salt)
         }
-        Written::Bytes(n) => {
+        Ok(n) => {
             e.number == 0
                 && n == e.length
                 && same_bytes(out, form_file, n)

@@ -31,6 +31,20 @@ const MANY_RULES: usize = 6;
 // The last family has few rules or none.
 pub const FAMILIES: usize = 8;
 
+// What a family is called.
+pub fn name(family: usize) -> &'static [u8] {
+    match family {
+        0 => b"deterministic",
+        1 => b"nondeterministic",
+        2 => b"all places",
+        3 => b"circling",
+        4 => b"sided",
+        5 => b"counting",
+        6 => b"many rules",
+        _ => b"few rules",
+    }
+}
+
 // The number of states.
 fn states_of(random: &mut u64, family: usize) -> usize {
     match family {

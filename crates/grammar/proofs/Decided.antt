@@ -1,5 +1,6 @@
 -- `wrong_place` is nothing exactly for the texts of the grammar, and otherwise the place where a text goes wrong.
 -- Assumes nothing.
+use Rattle.std.proofs.Common.{Option, Some, None}
 use Prim.Native.Nat.{ℕ, zero, suc, ◌+◌, ◌<◌, ◌≤◌}
 use native.Mathlib.Omega.{arith}
 use native.Mathlib.Numerals.{add-one}
@@ -11,7 +12,6 @@ use lib.Arith.{lt_of_le-ne}
 use lib.ListN.{length, get_or, take, drop, take-append-drop, length-append}
 use lib.Seq.{take-suc, take-length, get_or-append-add}
 use borrow.Author.Tests.{eqb-true, eqb-false, eq-eqb, not-true, not-false, lt-ltb, le-ltb}
-use Rattle.blocks.specs.declared.Found.{Found}
 use Rattle.blocks.proofs.Laws.{lowest-at, lowest-nothing}
 use Rattle.refusal.proofs.Passed.{clash, and-is-true}
 use Rattle.tags.specs.Classes.{class_of}
@@ -172,24 +172,24 @@ module _ (s : List ℕ) where
             text-false s (not-true _ (sym (at-end i e) ∙ w)) r t;
       }
 
-  answered-by : (f : Found) → wrong_place s ≡ f → TextRead s f
+  answered-by : (f : Option ℕ) → wrong_place s ≡ f → TextRead s f
   unfolding wrong_place
-  answered-by (Found.At i) e =
+  answered-by (Some i) e =
       let f = lowest-at (wrong_at s) 0 (suc (length s)) i e in
       found_at i (omega (arith, f.inside)) f.holds f.first
-  answered-by Found.Nothing e =
+  answered-by None e =
       text-true s (not-false _ (sym (at-end (length s) refl) ∙ lowest-nothing (wrong_at s) 0 (suc (length s)) e (length s) (omega arith) (omega arith)))
 
   pub answered : TextRead s (wrong_place s)
   answered = answered-by (wrong_place s) refl
 
 -- a text has one answer
-pub one_answer : (s : List ℕ) (a b : Found) → TextRead s a → TextRead s b → a ≡ b
-one_answer s Found.Nothing Found.Nothing h k = refl
-one_answer s Found.Nothing (Found.At q) h k = absurd (k.no_text h.0 h.1)
-one_answer s (Found.At p) Found.Nothing h k = absurd (h.no_text k.0 k.1)
-one_answer s (Found.At p) (Found.At q) h k = ap Found.At (wrong-once h k)
+pub one_answer : (s : List ℕ) (a b : Option ℕ) → TextRead s a → TextRead s b → a ≡ b
+one_answer s None None h k = refl
+one_answer s None (Some q) h k = absurd (k.no_text h.0 h.1)
+one_answer s (Some p) None h k = absurd (h.no_text k.0 k.1)
+one_answer s (Some p) (Some q) h k = ap Some (wrong-once h k)
 
 -- so what the grammar answers is what is computed
-pub told : (s : List ℕ) (a : Found) (k : ℕ) → TextRead s a → parse_of a k ≡ parse_of (wrong_place s) k
-told s a k h = ap (λ (f : Found). parse_of f k) (one_answer s a (wrong_place s) h (answered s))
+pub told : (s : List ℕ) (a : Option ℕ) (k : ℕ) → TextRead s a → parse_of a k ≡ parse_of (wrong_place s) k
+told s a k h = ap (λ (f : Option ℕ). parse_of f k) (one_answer s a (wrong_place s) h (answered s))

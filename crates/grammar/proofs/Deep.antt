@@ -15,8 +15,8 @@ use borrow.Author.Tests.{eqb-true, eqb-false}
 use Rattle.grammar.specs.Grammar.{Elements, Text, WrongAt}
 use Rattle.grammar.specs.Pushdown.{between, Goes}
 use Rattle.grammar.specs.Reading.{class_at, Stuck, Skipped, CloseAt, Named, CloseRead, open_in, Closes, StepRead, closed_by, opened_by, OpenRead, Reached}
-use Rattle.grammar.specs.declared.Opening.{Opening}
-use Rattle.grammar.specs.declared.Closing.{Closing}
+use Rattle.std.proofs.Common.{Result, Ok, Err}
+use Rattle.grammar.specs.declared.Wrong.{Wrong}
 use Rattle.grammar.proofs.Going.{trans, stuck-after}
 use Rattle.grammar.proofs.CloseTags.{early-stuck, root-closed}
 use Rattle.grammar.proofs.Parts.{stray-stuck}
@@ -41,14 +41,14 @@ popped l (suc d) h = let e : suc d - 1 ≡ d = omega arith in rw e
 
 -- ---- a tag
 
-pub opened-read : (s : List ℕ) (at : ℕ) (l : List ℕ) (depth : ℕ) (x : Opening) → OpenRead s at x → StepRead s at l depth (opened_by x)
-opened-read s at l depth (Opening.Named n r) h = h
-opened-read s at l depth (Opening.Wrong place) h = h (open_in l depth)
+pub opened-read : (s : List ℕ) (at : ℕ) (l : List ℕ) (depth : ℕ) (x : Result (ℕ × ℕ) Wrong) → OpenRead s at x → StepRead s at l depth (opened_by x)
+opened-read s at l depth (Ok (n, r)) h = h
+opened-read s at l depth (Err wrong) h = h (open_in l depth)
 
-pub closed-read : (s : List ℕ) (at : ℕ) (l : List ℕ) (depth : ℕ) (x : Closing) → (depth ≡ 0 → ⊥) → CloseRead s at (get_or l (depth - 1) 0) x
+pub closed-read : (s : List ℕ) (at : ℕ) (l : List ℕ) (depth : ℕ) (x : Result ℕ Wrong) → (depth ≡ 0 → ⊥) → CloseRead s at (get_or l (depth - 1) 0) x
     → StepRead s at l depth (closed_by x)
-closed-read s at l depth (Closing.To r) k h = record { some = k; shut = h }
-closed-read s at l depth (Closing.Wrong place) k h = rw (popped l depth k) (h (open_in l (depth - 1)))
+closed-read s at l depth (Ok r) k h = record { some = k; shut = h }
+closed-read s at l depth (Err wrong) k h = rw (popped l depth k) (h (open_in l (depth - 1)))
 
 -- where nothing is open
 pub closes-nothing : (s : List ℕ) (at : ℕ) (l : List ℕ) (depth : ℕ) → CloseAt s at → depth ≡ 0 → Stuck s at (between (open_in l depth)) (at + 1)

@@ -10,15 +10,17 @@ use Rattle.tags.specs.Classes.{class_of}
 use Rattle.grammar.proofs.CloseTags.{slash-at}
 use Rattle.grammar.specs.Pushdown.{Configuration, Goes, between}
 use Rattle.tags.proofs.ClassLaws.{class-less}
-use Rattle.grammar.specs.Reading.{class_at, Stuck, Skipped, CloseAt, Passed, PartRead, RunPassed, Filled, ElementRead, Named, CloseRead, shut_by}
-use Rattle.grammar.specs.declared.Closing.{Closing}
+use Rattle.grammar.specs.Reading.{class_at, Stuck, Skipped, CloseAt, Passed, PartRead, RunPassed, Filled, RunRead, ElementRead, Named, CloseRead, shut_by}
+use Rattle.std.proofs.Common.{Result, Ok, Err}
+use Rattle.grammar.specs.declared.Wrong.{Wrong}
+use Rattle.grammar.specs.declared.Unreadable.{Unreadable}
 use Rattle.grammar.proofs.Going.{trans, stuck-after, class-in, class-of-at, between-dead}
 
 -- an element is read: its tags and the run inside it, and the nodes up to the place after it
 pub element-read :
-    (s : List ℕ) (at n inside end count : ℕ) (nodes : List ℕ) (x : Closing) → Named s at n inside → RunPassed s inside end → CloseRead s end n x →
-    ((r : ℕ) → x ≡ Closing.To r → Filled s r count nodes) → ElementRead s at count nodes (shut_by x)
-element-read s at n inside end count nodes (Closing.To r) h k m f =
+    (s : List ℕ) (at n inside end count : ℕ) (nodes : List ℕ) (x : Result ℕ Wrong) → Named s at n inside → RunPassed s inside end → CloseRead s end n x →
+    ((r : ℕ) → x ≡ Ok r → Filled s r count nodes) → ElementRead s at count nodes (shut_by x)
+element-read s at n inside end count nodes (Ok r) h k m f =
     let p = k.passed in (
       record {
         from = omega (arith, h.from, p.from, m.from);
@@ -28,9 +30,22 @@ element-read s at n inside end count nodes (Closing.To r) h k m f =
       omega (arith, h.from, p.from, m.from),
       f r refl,
     )
-element-read s at n inside end count nodes (Closing.Wrong place) h k m f =
+element-read s at n inside end count nodes (Err wrong) h k m f =
     let p = k.passed in
     λ stack. stuck-after (omega (arith, h.from, p.from)) (trans (h.goes stack) (p.goes (n ∷ stack))) (m stack)
+
+-- an element of which the run inside was not read
+pub element-unread :
+    (s : List ℕ) (at n inside count : ℕ) (nodes : List ℕ) (x : Unreadable) → Named s at n inside → RunRead s inside count nodes (Err x) →
+    ElementRead s at count nodes (Err x)
+element-unread s at n inside count nodes (Unreadable.Wrong wrong) h k = λ stack. stuck-after (omega (arith, h.from)) (h.goes stack) (k (n ∷ stack))
+element-unread s at n inside count nodes Unreadable.Deep h k = k
+
+-- a run of which an element was not read
+pub run-unread :
+    (s : List ℕ) (at r count : ℕ) (nodes : List ℕ) (x : Unreadable) → PartRead s at r → ElementRead s r count nodes (Err x) → RunRead s at count nodes (Err x)
+run-unread s at r count nodes (Unreadable.Wrong wrong) h k = let p = h.passed in λ stack. stuck-after p.from (p.goes stack) (k stack)
+run-unread s at r count nodes Unreadable.Deep h k = k
 
 pub skipped-elements : {s : List ℕ} {at r : ℕ} → Skipped s at r → PartRead s at r
 skipped-elements h = record { passed = record { from = h.from; to = h.to; goes = h.goes }; ends = h.ends }

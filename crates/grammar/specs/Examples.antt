@@ -1,7 +1,6 @@
 -- Texts, and where each goes wrong, as one table: the examples of the readings of document 02, W6. proofs/Examples computes each.
 -- Interface: `Example`, `examples`, `shown`.
-use Rattle.std.specs.Prelude.{ℕ, List, [], ◌∷◌}
-use Rattle.blocks.specs.declared.Found.{Found}
+use Rattle.std.specs.Prelude.{ℕ, List, [], ◌∷◌, Option, Some, None}
 
 -- a text, or bytes that go wrong at a place
 pub data Example : Type 0 where
@@ -12,9 +11,9 @@ abbrev pub bytes_of : Example → List ℕ
 bytes_of (reads s) = s
 bytes_of (wrong s place) = s
 
-abbrev pub shown : Example → Found
-shown (reads s) = Found.Nothing
-shown (wrong s place) = Found.At place
+abbrev pub shown : Example → Option ℕ
+shown (reads s) = None
+shown (wrong s place) = Some place
 
 unfoldable pub examples : List Example
 examples =

@@ -1,16 +1,13 @@
 -- What the functions that read a text answer: of a part of it by the pushdown automaton, of a whole text by the grammar; and the nodes that they list.
 -- Interface: `Filled`, `ElementRead`, `RunRead`, `TextRead`.
-use Rattle.std.specs.Prelude.{ℕ, zero, suc, ◌+◌, ◌-◌, ◌*◌, ◌<◌, ◌≤◌, ◌≡◌, Bool, true, false, List, [], ◌∷◌, ltb, length, get_or, take, drop}
+use Rattle.std.specs.Prelude.{ℕ, zero, suc, ◌+◌, ◌-◌, ◌*◌, ◌<◌, ◌≤◌, ◌≡◌, Bool, true, false, List, [], ◌∷◌, ltb, length, get_or, take, drop, Option, Some, None, Result, Ok, Err}
 use Rattle.tags.specs.Classes.{class_of, pick, space, slash}
 use Rattle.tags.specs.Tags.{nodes_in}
 use Rattle.grammar.specs.Grammar.{Elements, Text, WrongAt}
 use Rattle.grammar.specs.Pushdown.{Configuration, between, step, dead, Goes, Alive}
-use Rattle.grammar.specs.declared.Reading.{Reading}
-use Rattle.grammar.specs.declared.Opening.{Opening}
-use Rattle.grammar.specs.declared.Closing.{Closing}
+use Rattle.grammar.specs.declared.Wrong.{Wrong}
+use Rattle.grammar.specs.declared.Unreadable.{Unreadable}
 use Rattle.grammar.specs.declared.Step.{Step}
-use Rattle.grammar.specs.declared.Parse.{Parse}
-use Rattle.blocks.specs.declared.Found.{Found}
 
 -- the class of the byte at a place; 6 at the end
 unfoldable pub class_at : List ℕ → ℕ → ℕ
@@ -73,15 +70,15 @@ pub record Filled (s : List ℕ) (at count : ℕ) (nodes : List ℕ) : Type 0 wh
   pub rest : drop count (nodes_in s) ≡ nodes_in (drop at s)
 
 -- a run: up to the end or to a closing tag
-abbrev pub RunRead : List ℕ → (at count : ℕ) → (nodes : List ℕ) → Reading → Type 0
-RunRead s at count nodes (Reading.To r) = RunPassed s at r × Filled s r count nodes
-RunRead s at count nodes (Reading.Wrong place) = (stack : List ℕ) → Stuck s at (between stack) place
-RunRead s at count nodes Reading.Deep = length nodes ≡ 10924
+abbrev pub RunRead : List ℕ → (at count : ℕ) → (nodes : List ℕ) → Result ℕ Unreadable → Type 0
+RunRead s at count nodes (Ok r) = RunPassed s at r × Filled s r count nodes
+RunRead s at count nodes (Err (Unreadable.Wrong wrong)) = (stack : List ℕ) → Stuck s at (between stack) wrong.0
+RunRead s at count nodes (Err Unreadable.Deep) = length nodes ≡ 10924
 
-abbrev pub ElementRead : List ℕ → (at count : ℕ) → (nodes : List ℕ) → Reading → Type 0
-ElementRead s at count nodes (Reading.To r) = Passed s at r × (at < r) × Filled s r count nodes
-ElementRead s at count nodes (Reading.Wrong place) = (stack : List ℕ) → Stuck s at (between stack) place
-ElementRead s at count nodes Reading.Deep = length nodes ≡ 10924
+abbrev pub ElementRead : List ℕ → (at count : ℕ) → (nodes : List ℕ) → Result ℕ Unreadable → Type 0
+ElementRead s at count nodes (Ok r) = Passed s at r × (at < r) × Filled s r count nodes
+ElementRead s at count nodes (Err (Unreadable.Wrong wrong)) = (stack : List ℕ) → Stuck s at (between stack) wrong.0
+ElementRead s at count nodes (Err Unreadable.Deep) = length nodes ≡ 10924
 
 -- an opening tag of n, up to r
 pub record Named (s : List ℕ) (at n r : ℕ) : Type 0 where
@@ -91,9 +88,9 @@ pub record Named (s : List ℕ) (at n r : ℕ) : Type 0 where
   pub goes : (stack : List ℕ) → Goes s at (between stack) r (between (n ∷ stack))
   pub nodes : nodes_in (drop at s) ≡ n ∷ nodes_in (drop r s)
 
-abbrev pub OpenRead : List ℕ → ℕ → Opening → Type 0
-OpenRead s at (Opening.Named n r) = Named s at n r
-OpenRead s at (Opening.Wrong place) = (stack : List ℕ) → Stuck s at (between stack) place
+abbrev pub OpenRead : List ℕ → ℕ → Result (ℕ × ℕ) Wrong → Type 0
+OpenRead s at (Ok (n, r)) = Named s at n r
+OpenRead s at (Err wrong) = (stack : List ℕ) → Stuck s at (between stack) wrong.0
 
 -- a closing tag of n, up to r
 pub record Shut (s : List ℕ) (at n r : ℕ) : Type 0 where
@@ -102,23 +99,25 @@ pub record Shut (s : List ℕ) (at n r : ℕ) : Type 0 where
   pub goes : (stack : List ℕ) → Goes s at (between (n ∷ stack)) r (between stack)
   pub nodes : nodes_in (drop at s) ≡ 0 ∷ nodes_in (drop r s)
 
-abbrev pub CloseRead : List ℕ → ℕ → ℕ → Closing → Type 0
-CloseRead s at n (Closing.To r) = Shut s at n r
-CloseRead s at n (Closing.Wrong place) = (stack : List ℕ) → Stuck s at (between (n ∷ stack)) place
+abbrev pub CloseRead : List ℕ → ℕ → ℕ → Result ℕ Wrong → Type 0
+CloseRead s at n (Ok r) = Shut s at n r
+CloseRead s at n (Err wrong) = (stack : List ℕ) → Stuck s at (between (n ∷ stack)) wrong.0
 
-abbrev pub shut_by : Closing → Reading
-shut_by (Closing.To r) = Reading.To r
-shut_by (Closing.Wrong place) = Reading.Wrong place
+-- what an element comes to that a closing tag ends
+abbrev pub shut_by : Result ℕ Wrong → Result ℕ Unreadable
+shut_by (Ok r) = Ok r
+shut_by (Err wrong) = Err (Unreadable.Wrong wrong)
 
 -- ---- the same with the numbers of the open elements in a list
 
-abbrev pub opened_by : Opening → Step
-opened_by (Opening.Named n r) = Step.Opens n r
-opened_by (Opening.Wrong place) = Step.Wrong place
+-- what a tag is, by its reading
+abbrev pub opened_by : Result (ℕ × ℕ) Wrong → Result Step Wrong
+opened_by (Ok (n, r)) = Ok (Step.Opens n r)
+opened_by (Err wrong) = Err wrong
 
-abbrev pub closed_by : Closing → Step
-closed_by (Closing.To r) = Step.Closes r
-closed_by (Closing.Wrong place) = Step.Wrong place
+abbrev pub closed_by : Result ℕ Wrong → Result Step Wrong
+closed_by (Ok r) = Ok (Step.Closes r)
+closed_by (Err wrong) = Err wrong
 
 -- the numbers of the elements that are open, innermost first, where a list has them from the outermost on
 abbrev pub open_in : List ℕ → (depth : ℕ) → List ℕ
@@ -135,10 +134,10 @@ pub record Closes (s : List ℕ) (at : ℕ) (l : List ℕ) (depth r : ℕ) : Typ
   pub some : depth ≡ 0 → ⊥
   pub shut : Shut s at (get_or l (depth - 1) 0) r
 
-abbrev pub StepRead : List ℕ → (at : ℕ) → (numbers : List ℕ) → (depth : ℕ) → Step → Type 0
-StepRead s at l depth (Step.Opens n r) = Named s at n r
-StepRead s at l depth (Step.Closes r) = Closes s at l depth r
-StepRead s at l depth (Step.Wrong place) = Stuck s at (between (open_in l depth)) place
+abbrev pub StepRead : List ℕ → (at : ℕ) → (numbers : List ℕ) → (depth : ℕ) → Result Step Wrong → Type 0
+StepRead s at l depth (Ok (Step.Opens n r)) = Named s at n r
+StepRead s at l depth (Ok (Step.Closes r)) = Closes s at l depth r
+StepRead s at l depth (Err wrong) = Stuck s at (between (open_in l depth)) wrong.0
 
 -- how far a text was read: the elements that are open, and the nodes so far
 pub record Reached (s : List ℕ) (next : ℕ) (numbers : List ℕ) (depth count : ℕ) (nodes : List ℕ) : Type 0 where
@@ -152,16 +151,16 @@ pub record Reached (s : List ℕ) (next : ℕ) (numbers : List ℕ) (depth count
 -- ---- a whole text
 
 -- a text, or where it goes wrong, of the grammar itself
-abbrev pub TextRead : List ℕ → Found → Type 0
-TextRead s Found.Nothing = (r : Elements) × Text s r
-TextRead s (Found.At place) = WrongAt s place
+abbrev pub TextRead : List ℕ → Option ℕ → Type 0
+TextRead s None = (r : Elements) × Text s r
+TextRead s (Some place) = WrongAt s place
 
 -- the same as an answer, with the number of nodes
-abbrev pub parse_of : Found → (nodes : ℕ) → Parse
-parse_of Found.Nothing nodes = Parse.Nodes nodes
-parse_of (Found.At place) nodes = Parse.Wrong place
+abbrev pub parse_of : Option ℕ → (nodes : ℕ) → Result ℕ Wrong
+parse_of None nodes = Ok nodes
+parse_of (Some place) nodes = Err (record { 0 = place })
 
 -- where it is a text, the list has its nodes at its front
-abbrev pub Listed : List ℕ → (nodes : List ℕ) → Parse → Type 0
-Listed s nodes (Parse.Nodes k) = take k nodes ≡ nodes_in s
-Listed s nodes (Parse.Wrong place) = Unit
+abbrev pub Listed : List ℕ → (nodes : List ℕ) → Result ℕ Wrong → Type 0
+Listed s nodes (Ok k) = take k nodes ≡ nodes_in s
+Listed s nodes (Err wrong) = Unit

@@ -1,9 +1,8 @@
 -- Where a text goes wrong, computed: whether bytes are a text, or begin one, is told by the pushdown automaton. That this is the grammar's answer,
 -- both ways, is proofs/Decided.
 -- Interface: `wrong_place`.
-use Rattle.std.specs.Prelude.{ℕ, suc, Bool, true, false, not, ◌&&◌, List, [], ◌∷◌, eqb, ltb, length, take}
+use Rattle.std.specs.Prelude.{ℕ, suc, Bool, true, false, not, ◌&&◌, List, [], ◌∷◌, eqb, ltb, length, take, Option}
 use Rattle.blocks.specs.Search.{lowest}
-use Rattle.blocks.specs.declared.Found.{Found}
 use Rattle.tags.specs.Classes.{class_of, space}
 use Rattle.grammar.specs.Pushdown.{Configuration, between, tag, one, two, closing, dead, steps, alive}
 
@@ -38,5 +37,5 @@ unfoldable pub wrong_at : List ℕ → (place : ℕ) → Bool
 wrong_at s i = not (either (ltb i (length s)) (begins (take (suc i) s)) (is_text s))
 
 -- "the first byte at which no continuation could be right, or the length if it ends early"; nothing for a text
-unfoldable pub wrong_place : List ℕ → Found
+unfoldable pub wrong_place : List ℕ → Option ℕ
 wrong_place s = lowest (wrong_at s) (suc (length s))

@@ -6,40 +6,31 @@ ghost use Rattle.std.specs.Prelude.{◌≡◌, ◌+◌, ◌*◌, ◌<◌, ◌≤
 ghost use Rattle.tags.specs.Classes.{IsTable};
 ghost use Rattle.tags.specs.Tags.{nodes_in};
 ghost use Rattle.grammar.specs.Wrong.{wrong_place};
-ghost use Rattle.grammar.specs.Reading.{class_at, IsByte, Skipped, CloseAt, Opens, Filled, RunRead, ElementRead, OpenRead, CloseRead, shut_by, opened_by, closed_by, Numbered, StepRead, parse_of, Listed};
+ghost use Rattle.grammar.specs.declared.Unreadable.{Unreadable};
+ghost use Rattle.grammar.specs.Reading.{class_at, IsByte, Skipped, CloseAt, Opens, Filled, RunRead, ElementRead, OpenRead, CloseRead, Numbered, StepRead, parse_of, Listed};
 
 use tags::{DIGIT, GREATER, LESS, SLASH, SPACE, class_in, class_table};
 
 // No byte: past the end.
 const NONE: u8 = 6;
 
-// The place after what was read, or the first place at which nothing could be right; or elements open more levels than may be.
+// The first place at which nothing could be right.
 #[derive(Clone, Copy)]
-pub enum Reading {
-    To(usize),
-    Wrong(usize),
+pub struct Wrong(pub usize);
+
+// Why an element or a run was not read: a place at which nothing could be right; or elements open more levels than may be.
+#[derive(Clone, Copy)]
+pub enum Unreadable {
+    Wrong(Wrong),
     Deep,
 }
 
-// A closing tag: the place after it.
-#[derive(Clone, Copy)]
-pub enum Closing {
-    To(usize),
-    Wrong(usize),
-}
+impl From<Wrong> for Unreadable {
+    ghost from_gives = { λ wrong unreadable. unreadable ≡ Unreadable.Wrong wrong };
 
-// An opening tag: its number and the place after it.
-#[derive(Clone, Copy)]
-pub enum Opening {
-    Named(u8, usize),
-    Wrong(usize),
-}
-
-// What a text is: a tree of so many nodes; or where it goes wrong.
-#[derive(Clone, Copy)]
-pub enum Parse {
-    Nodes(usize),
-    Wrong(usize),
+    fn from(wrong: Wrong) -> Unreadable {
+        Unreadable::Wrong(wrong)
+    }
 }
 
 fn class_at(text: &[u8], at: usize, classes: &[u8; 256]) -> u8
@@ -59,43 +50,41 @@ fn skip(text: &[u8], at: usize, classes: &[u8; 256]) -> usize
     requires table { IsTable classes.now }
     ensures { Skipped text.now at result }
 {
-    let mut next = at;
-    while next < text.len() {
+    for next in at..text.len() {
         if class_in(text[next], classes) != SPACE {
             return next;
         }
-        next += 1;
     }
-    next
+    text.len()
 }
 
-// An opening tag; its `<` stands at `at`.
-fn open_tag(text: &[u8], at: usize, classes: &[u8; 256]) -> Opening
+// An opening tag, its `<` at `at`: its number and the place after it.
+fn open_tag(text: &[u8], at: usize, classes: &[u8; 256]) -> Result<(u8, usize), Wrong>
     requires opens { Opens text.now at }
     requires table { IsTable classes.now }
     ensures { OpenRead text.now at result }
 {
     if class_at(text, at + 1, classes) != DIGIT {
-        return Opening::Wrong(at + 1);
+        return Err(Wrong(at + 1));
     }
     let first = text[at + 1] - 48;
     let class = class_at(text, at + 2, classes);
     if class == GREATER {
-        return Opening::Named(first, at + 3);
+        return Ok((first, at + 3));
     }
     if class != DIGIT {
-        return Opening::Wrong(at + 2);
+        return Err(Wrong(at + 2));
     }
     let leading_zero = first == 0;
     if leading_zero {
-        return Opening::Wrong(at + 2);
+        return Err(Wrong(at + 2));
     }
     let second = text[at + 2] - 48;
     let ends = class_at(text, at + 3, classes) == GREATER;
     if !ends {
-        return Opening::Wrong(at + 3);
+        return Err(Wrong(at + 3));
     }
-    Opening::Named(10 * first + second, at + 4)
+    Ok((10 * first + second, at + 4))
 }
 
 fn is_byte(text: &[u8], at: usize, b: u8) -> bool
@@ -109,43 +98,33 @@ fn is_byte(text: &[u8], at: usize, b: u8) -> bool
     }
 }
 
-// The closing tag of a number, where a run has ended.
-fn close_tag(text: &[u8], at: usize, number: u8) -> Closing
+// The closing tag of a number, where a run has ended: the place after it.
+fn close_tag(text: &[u8], at: usize, number: u8) -> Result<usize, Wrong>
     requires { (at ≤ length text.now) × (at < length text.now → CloseAt text.now at) × (number < 100) }
     ensures { CloseRead text.now at number result }
 {
     if at == text.len() {
-        return Closing::Wrong(at);
+        return Err(Wrong(at));
     }
     if number < 10 {
         if !is_byte(text, at + 2, 48 + number) {
-            return Closing::Wrong(at + 2);
+            return Err(Wrong(at + 2));
         }
         if !is_byte(text, at + 3, 62) {
-            return Closing::Wrong(at + 3);
+            return Err(Wrong(at + 3));
         }
-        Closing::To(at + 4)
+        Ok(at + 4)
     } else {
         if !is_byte(text, at + 2, 48 + number / 10) {
-            return Closing::Wrong(at + 2);
+            return Err(Wrong(at + 2));
         }
         if !is_byte(text, at + 3, 48 + number % 10) {
-            return Closing::Wrong(at + 3);
+            return Err(Wrong(at + 3));
         }
         if !is_byte(text, at + 4, 62) {
-            return Closing::Wrong(at + 4);
+            return Err(Wrong(at + 4));
         }
-        Closing::To(at + 5)
-    }
-}
-
-// What an element comes to that a closing tag ends.
-fn shut(closing: Closing) -> Reading
-    ensures { result ≡ shut_by closing }
-{
-    match closing {
-        Closing::To(after) => Reading::To(after),
-        Closing::Wrong(place) => Reading::Wrong(place),
+        Ok(at + 5)
     }
 }
 
@@ -159,33 +138,25 @@ fn element(
     nodes: &mut [u8; 10924],
     count: &mut usize,
     levels: usize,
-) -> Reading
+) -> Result<usize, Unreadable>
     requires opens { Opens text.now at }
     requires table { IsTable classes.now }
     requires filled { Filled text.now at count.old nodes.old }
     ensures { ElementRead text.now at count.new nodes.new result }
 {
     if levels == 0 {
-        return Reading::Deep;
+        return Err(Unreadable::Deep);
     }
-    match open_tag(text, at, classes) {
-        Opening::Wrong(place) => Reading::Wrong(place),
-        Opening::Named(number, inside) => {
-            let first = *count;
-            nodes[first] = number;
-            *count = first + 1;
-            match run(text, inside, classes, nodes, count, levels - 1) {
-                Reading::Deep => Reading::Deep,
-                Reading::Wrong(place) => Reading::Wrong(place),
-                Reading::To(end) => {
-                    let last = *count;
-                    nodes[last] = 0;
-                    *count = last + 1;
-                    shut(close_tag(text, end, number))
-                }
-            }
-        }
-    }
+    let (number, inside) = open_tag(text, at, classes)?;
+    let first = *count;
+    nodes[first] = number;
+    *count = first + 1;
+    let end = run(text, inside, classes, nodes, count, levels - 1)?;
+    let last = *count;
+    nodes[last] = 0;
+    *count = last + 1;
+    let after = close_tag(text, end, number)?;
+    Ok(after)
 }
 
 // A run, through its elements: up to the end or to a closing tag.
@@ -197,7 +168,7 @@ fn run(
     nodes: &mut [u8; 10924],
     count: &mut usize,
     levels: usize,
-) -> Reading
+) -> Result<usize, Unreadable>
     requires at_in_bounds { at ≤ length text.now }
     requires table { IsTable classes.now }
     requires filled { Filled text.now at count.old nodes.old }
@@ -206,24 +177,15 @@ fn run(
     let mut next = skip(text, at, classes);
     while class_at(text, next, classes) == LESS {
         if class_at(text, next + 1, classes) == SLASH {
-            return Reading::To(next);
+            return Ok(next);
         }
-        match element(text, next, classes, nodes, count, levels) {
-            Reading::Deep => {
-                return Reading::Deep;
-            }
-            Reading::Wrong(place) => {
-                return Reading::Wrong(place);
-            }
-            Reading::To(after) => {
-                next = skip(text, after, classes);
-            }
-        }
+        let after = element(text, next, classes, nodes, count, levels)?;
+        next = skip(text, after, classes);
     }
     if next == text.len() {
-        Reading::To(next)
+        Ok(next)
     } else {
-        Reading::Wrong(next)
+        Err(Unreadable::Wrong(Wrong(next)))
     }
 }
 
@@ -232,25 +194,6 @@ fn run(
 pub enum Step {
     Opens(u8, usize),
     Closes(usize),
-    Wrong(usize),
-}
-
-fn opened(opening: Opening) -> Step
-    ensures { result ≡ opened_by opening }
-{
-    match opening {
-        Opening::Named(number, inside) => Step::Opens(number, inside),
-        Opening::Wrong(place) => Step::Wrong(place),
-    }
-}
-
-fn closed(closing: Closing) -> Step
-    ensures { result ≡ closed_by closing }
-{
-    match closing {
-        Closing::To(after) => Step::Closes(after),
-        Closing::Wrong(place) => Step::Wrong(place),
-    }
 }
 
 // The tag whose `<` stands at `at`, where so many elements are open, with these numbers.
@@ -260,23 +203,31 @@ fn read_tag(
     classes: &[u8; 256],
     numbers: &[u8; 10924],
     depth: usize,
-) -> Step
+) -> Result<Step, Wrong>
     requires at_in_bounds { (at < length text.now) × (get_or text.now at 0 ≡ 60) × Numbered numbers.now depth }
     requires table { IsTable classes.now }
     ensures { StepRead text.now at numbers.now depth result }
 {
-    if class_at(text, at + 1, classes) != SLASH {
-        return opened(open_tag(text, at, classes));
+    let slash = at + 1;
+    if class_at(text, slash, classes) != SLASH {
+        let (number, inside) = open_tag(text, at, classes)?;
+        return Ok(Step::Opens(number, inside));
     }
     if depth == 0 {
-        return Step::Wrong(at + 1);
+        return Err(Wrong(slash));
     }
-    closed(close_tag(text, at, numbers[depth - 1]))
+    let after = close_tag(text, at, numbers[depth - 1])?;
+    Ok(Step::Closes(after))
 }
 
 // Reads a text whose first byte that is no space stands at `first`, however deep its elements are: the numbers of those that are open are kept in
 // a list.
-fn read_deep(text: &[u8], classes: &[u8; 256], nodes: &mut [u8; 10924], first: usize) -> Parse
+fn read_deep(
+    text: &[u8],
+    classes: &[u8; 256],
+    nodes: &mut [u8; 10924],
+    first: usize,
+) -> Result<usize, Wrong>
     requires text_len_bound { (length text.now ≤ 32768) × (length nodes.old ≡ 10924) × Skipped text.now 0 first × (first < length text.now) }
     requires table { IsTable classes.now }
     ensures { (result ≡ parse_of (wrong_place text.now) (length (nodes_in text.now))) × Listed text.now nodes.new result }
@@ -286,10 +237,8 @@ fn read_deep(text: &[u8], classes: &[u8; 256], nodes: &mut [u8; 10924], first: u
     let mut count = 0;
     let mut next = first;
     while class_at(text, next, classes) == LESS {
-        match read_tag(text, next, classes, &numbers, depth) {
-            Step::Wrong(place) => {
-                return Parse::Wrong(place);
-            }
+        let step = read_tag(text, next, classes, &numbers, depth)?;
+        match step {
             Step::Opens(number, inside) => {
                 nodes[count] = number;
                 count += 1;
@@ -306,38 +255,38 @@ fn read_deep(text: &[u8], classes: &[u8; 256], nodes: &mut [u8; 10924], first: u
         }
     }
     if next < text.len() {
-        return Parse::Wrong(next);
+        return Err(Wrong(next));
     }
     if depth != 0 {
-        return Parse::Wrong(next);
+        return Err(Wrong(next));
     }
     nodes[count] = 0;
-    Parse::Nodes(count + 1)
+    Ok(count + 1)
 }
 
 // The levels that the tree of a text may have: what is deeper is refused, but not before all of the text is read.
 const LEVELS: usize = 64;
 
 // Reads a text: its nodes, in preorder, go to the front of the list. Three bytes or more stand for each of them, and the last is the end's.
-pub fn read_text(text: &[u8], nodes: &mut [u8; 10924]) -> Parse
+pub fn read_text(text: &[u8], nodes: &mut [u8; 10924]) -> Result<usize, Wrong>
     requires { (length text.now ≤ 32768) × (length nodes.old ≡ 10924) }
     ensures { (result ≡ parse_of (wrong_place text.now) (length (nodes_in text.now))) × Listed text.now nodes.new result }
 {
     let classes = class_table();
     let first = skip(text, 0, &classes);
     if first == text.len() {
-        return Parse::Wrong(first);
+        return Err(Wrong(first));
     }
     let mut count = 0;
     match run(text, first, &classes, nodes, &mut count, LEVELS) {
-        Reading::Deep => read_deep(text, &classes, nodes, first),
-        Reading::Wrong(place) => Parse::Wrong(place),
-        Reading::To(end) => {
+        Err(Unreadable::Deep) => read_deep(text, &classes, nodes, first),
+        Err(Unreadable::Wrong(wrong)) => Err(wrong),
+        Ok(end) => {
             if end != text.len() {
-                return Parse::Wrong(end + 1);
+                return Err(Wrong(end + 1));
             }
             nodes[count] = 0;
-            Parse::Nodes(count + 1)
+            Ok(count + 1)
         }
     }
 }

@@ -3,31 +3,19 @@
 // label and the files. A file's length with 32768 added stands for the file of the case before. tools/make_growth_cases.py makes them.
 #![tactic(auto)]
 
-ghost use Rattle.std.specs.Prelude.{◌+◌, ◌≤◌, length};
-
 use membership::Answer;
 use refusal::Refusal;
+use telling::{number, pair_at, print_refusal, read_below, read_front};
 
-fn number(label: &[u8], n: u64) {
-    io::write_all(1, label);
-    io::print_decimal(1, n);
-}
-
-fn print_refusal(refusal: Refusal) {
-    number(b" refused=", refusal.number as u64);
-    number(b" file=", refusal.file as u64);
-    number(b" place=", refusal.place as u64);
-}
-
-fn print_answer(answer: Answer) {
+fn print_answer(answer: Result<Answer, Refusal>) {
     match answer {
-        Answer::Accepted => {
+        Ok(Answer::Accepted) => {
             io::write_all(1, b" accepted");
         }
-        Answer::Other => {
+        Ok(Answer::Other) => {
             io::write_all(1, b" other");
         }
-        Answer::Refused(refusal) => print_refusal(refusal),
+        Err(refusal) => print_refusal(refusal),
     }
 }
 
@@ -36,28 +24,6 @@ fn print_judged(automaton: &[u8], tree: &[u8]) {
     let answer = judged.answer;
     print_answer(answer);
     number(b" growth=", judged.growth as u64);
-}
-
-// Fills the first n bytes of a buffer from the input; false where either is shorter.
-fn read_front(buffer: &mut [u8], n: usize) -> bool {
-    if buffer.len() < n {
-        return false;
-    }
-    io::read_full(0, &mut buffer[..n]) == n
-}
-
-fn pair_at(bytes: &[u8], at: usize) -> usize
-    requires { at + 2 ≤ length bytes.now }
-{
-    blocks::half_at(bytes, at) as usize
-}
-
-// Reads the file into the buffer, unless it is the one of the case before; false where the input ends before it does.
-fn read_file(file: &mut [u8], length: usize) -> bool {
-    if length < 32768 {
-        return read_front(file, length);
-    }
-    true
 }
 
 // Writes the line of a case whose label and files are read.
@@ -82,10 +48,10 @@ fn one_case(automaton: &mut [u8], tree: &mut [u8]) -> bool {
     if !read_front(&mut label, n) {
         return false;
     }
-    if !read_file(automaton, pair_at(&head, 1)) {
+    if !read_below(automaton, pair_at(&head, 1), 32768) {
         return false;
     }
-    if !read_file(tree, pair_at(&head, 3)) {
+    if !read_below(tree, pair_at(&head, 3), 32768) {
         return false;
     }
     print_line(blocks::front(&label, n), &head, automaton, tree);

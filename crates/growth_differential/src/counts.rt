@@ -1,5 +1,5 @@
 // What is counted, and the lines that tell it.
-use crate::told::{Told, same};
+use crate::told::Told;
 use generated::families;
 use sampling::access::{number, set_number};
 use sampling::report::{count, labelled, text};
@@ -64,7 +64,7 @@ fn print_difference(counts: &[usize], pair: usize, expected: Told, found: Told) 
 }
 
 pub fn tally(counts: &mut [usize], pair: usize, family: usize, expected: Told, found: Told) {
-    let differs = !same(expected, found);
+    let differs = expected != found;
     if differs {
         print_difference(counts, pair, expected, found);
     }
@@ -90,15 +90,10 @@ fn line(label: &[u8], counts: &[usize], family: usize) {
 }
 
 fn print_families(counts: &[usize]) {
-    line(b"deterministic", counts, 0);
-    line(b"nondeterministic", counts, 1);
-    line(b"all places", counts, 2);
-    line(b"circling", counts, 3);
-    line(b"sided", counts, 4);
-    line(b"counting", counts, 5);
-    line(b"many rules", counts, 6);
-    line(b"few rules", counts, 7);
-    line(b"all", counts, 8);
+    for family in 0..families::FAMILIES {
+        line(families::name(family), counts, family);
+    }
+    line(b"all", counts, families::FAMILIES);
 }
 
 fn print_sizes(counts: &[usize]) {

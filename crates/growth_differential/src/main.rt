@@ -30,7 +30,7 @@ const FIRST: usize = 200000;
 fn cached(automaton: &[u8], tree: &[u8]) -> usize {
     let mut numbers = [0usize; 3];
     let mut growths = [0usize; 1];
-    answers::judge_all(automaton, tree, &mut numbers, &mut growths);
+    let _ = answers::judge_all(automaton, tree, &mut numbers, &mut growths);
     growths[0]
 }
 
@@ -50,9 +50,9 @@ fn in_numbers(found: Judged, other: usize) -> Told {
     let answer = found.answer;
     let sum = found.growth as usize;
     match answer {
-        Answer::Accepted => judged(true, agreed(sum, other)),
-        Answer::Other => judged(false, agreed(sum, other)),
-        Answer::Refused(refusal) => {
+        Ok(Answer::Accepted) => judged(true, agreed(sum, other)),
+        Ok(Answer::Other) => judged(false, agreed(sum, other)),
+        Err(refusal) => {
             refused(
                 refusal.number as usize,
                 refusal.file as usize,

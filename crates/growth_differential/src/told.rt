@@ -1,5 +1,5 @@
 // What is said of a pair of files: accepted (0), other (1), or refused (2) with the refusal's number, file and place; and the sum.
-#[derive(Clone, Copy)]
+#[derive(Clone, Copy, PartialEq, Eq)]
 pub struct Told {
     pub kind: usize,
     pub number: usize,
@@ -26,12 +26,4 @@ pub fn judged(accepted: bool, sum: usize) -> Told {
         place: 0,
         sum,
     }
-}
-
-pub fn same(a: Told, b: Told) -> bool {
-    a.kind == b.kind
-        && a.number == b.number
-        && a.file == b.file
-        && a.place == b.place
-        && a.sum == b.sum
 }

@@ -2,18 +2,15 @@
 // its parts lead to the class of a node.
 #![tactic(auto)]
 
-ghost use Rattle.std.specs.Prelude.{◌≡◌, true, List, ℕ, ◌+◌, ◌<◌, ◌≤◌};
+ghost use Rattle.std.specs.Prelude.{◌≡◌, true, ◌+◌, ◌<◌, ◌≤◌};
 ghost use Rattle.relation.specs.Rows.{composed};
 ghost use Rattle.algorithms.specs.Automaton.{Automaton};
 ghost use Rattle.algorithms.specs.Overloops.{moves};
 ghost use Rattle.transitions.specs.Compiled.{Compiled};
 ghost use Rattle.class_tables.specs.Classes.{rows_of};
-ghost use Rattle.class_tables.specs.Cache.{index_at, classes, CachedIn};
+ghost use Rattle.class_tables.specs.Cache.{index_at, classes, Cached};
 
-use class_tables::{
-    Counts, Hints, IndexMaps, Store, class_rows, free_hint, hint_at, hinted, index_of, index_place,
-    mixed,
-};
+use class_tables::{Cache, class_rows, free_hint, hint_at, hinted, index_of, index_place, mixed};
 use model::{Move, Place, Side, State, Symbol};
 use overloops::{rows_at, side_number};
 use relation::Relation;
@@ -92,24 +89,23 @@ fn is_like(
     table: &TransitionTable,
     symbol: Symbol,
     side: Side,
-    count: u32,
-    store: &Store,
-    maps: &IndexMaps,
+    cache: &Cache,
     other: u32,
     part: Relation,
 ) -> bool
     requires { (symbol.0 < 32) × (other < 1024) }
-    ensures { result ≡ true → (other < count) × (0 < index_at maps.now side symbol.0 other)
+    ensures { result ≡ true → (other < classes cache.now.counts) × (0 < index_at cache.now.maps side symbol.0 other)
         × ((A : Automaton) → Compiled A table.now → (τ : Place)
-        → composed (moves A symbol.0 τ (Move.Down side)) (rows_of store.now other side) ≡ composed (moves A symbol.0 τ (Move.Down side)) part.rows) }
+        → composed (moves A symbol.0 τ (Move.Down side)) (rows_of cache.now.store other side) ≡ composed (moves A symbol.0 τ (Move.Down side)) part.rows) }
 {
-    if count <= other {
+    if cache.counts[0] <= other {
         return false;
     }
-    if index_of(maps, symbol, side, other) == 0 {
+    if index_of(&cache.maps, symbol, side, other) == 0 {
         return false;
     }
-    alike(table, symbol, side, class_rows(store, other, side), part)
+    let known = class_rows(&cache.store, other, side);
+    alike(table, symbol, side, known, part)
 }
 
 // A class that does the same at a symbol on a side as a relation, and has an index there; 1024 where the hints lead to none.
@@ -117,21 +113,18 @@ fn class_like(
     table: &TransitionTable,
     symbol: Symbol,
     side: Side,
-    count: u32,
-    store: &Store,
-    maps: &IndexMaps,
-    hints: &Hints,
+    cache: &Cache,
     hint: usize,
     part: Relation,
 ) -> u32
     requires { (symbol.0 < 32) × (hint + 4 ≤ 6144) }
-    ensures { result < 1024 → (result < count) × (0 < index_at maps.now side symbol.0 result)
+    ensures { result < 1024 → (result < classes cache.now.counts) × (0 < index_at cache.now.maps side symbol.0 result)
         × ((A : Automaton) → Compiled A table.now → (τ : Place)
-        → composed (moves A symbol.0 τ (Move.Down side)) (rows_of store.now result side) ≡ composed (moves A symbol.0 τ (Move.Down side)) part.rows) }
+        → composed (moves A symbol.0 τ (Move.Down side)) (rows_of cache.now.store result side) ≡ composed (moves A symbol.0 τ (Move.Down side)) part.rows) }
 {
     for step in 0..4usize {
-        let other = hinted(hints, hint + step);
-        if is_like(table, symbol, side, count, store, maps, other, part) {
+        let other = hinted(&cache.hints, hint + step);
+        if is_like(table, symbol, side, cache, other, part) {
             return other;
         }
     }
@@ -139,39 +132,29 @@ fn class_like(
 }
 
 // Gives a class an index at a symbol on a side, where it has none and there is room: that of a class that does the same, or a new one.
-pub fn map_class(
-    table: &TransitionTable,
-    symbol: Symbol,
-    side: Side,
-    class: u32,
-    counts: &mut Counts,
-    store: &Store,
-    maps: &mut IndexMaps,
-    hints: &mut Hints,
-)
+pub fn map_class(table: &TransitionTable, symbol: Symbol, side: Side, class: u32, cache: &mut Cache)
     requires { (symbol.0 < 32) × (class < 1024) }
-    ensures { (A : Automaton) (cells : List ℕ) → Compiled A table.now
-        → CachedIn A counts.old store.now maps.old cells → class < classes counts.old
-        → CachedIn A counts.new store.now maps.new cells × (classes counts.new ≡ classes counts.old) }
+    ensures { (cache.new.store ≡ cache.old.store) × (cache.new.cells ≡ cache.old.cells)
+        × ((A : Automaton) → Compiled A table.now → Cached A cache.old → class < classes cache.old.counts
+        → Cached A cache.new × (classes cache.new.counts ≡ classes cache.old.counts)) }
 {
     let place = index_place(symbol, side, class);
-    if maps[place] != 0 {
+    if cache.maps[place] != 0 {
         return;
     }
     let number = side_number(side);
-    let part = class_rows(store, class, side);
+    let part = class_rows(&cache.store, class, side);
     let hint = hint_at(1 + number, mark(table, symbol, side, part));
-    let count = counts[0];
-    let other = class_like(table, symbol, side, count, store, maps, hints, hint, part);
+    let other = class_like(table, symbol, side, cache, hint, part);
     if other < 1024 {
-        maps[place] = maps[index_place(symbol, side, other)];
+        cache.maps[place] = cache.maps[index_place(symbol, side, other)];
         return;
     }
-    let next = counts[1 + number];
+    let next = cache.counts[1 + number];
     if next < 65536 {
-        maps[place] = next as u16;
-        counts[1 + number] = next + 1;
-        let free = free_hint(hints, hint);
-        hints[free] = class as u16;
+        cache.maps[place] = next as u16;
+        cache.counts[1 + number] = next + 1;
+        let free = free_hint(&cache.hints, hint);
+        cache.hints[free] = class as u16;
     }
 }

@@ -1,12 +1,13 @@
 -- What the nodes of a file tell of the file.
 -- Assumes nothing.
-use Prim.Native.Nat.{ℕ, ◌+◌, ◌<◌}
+use Rattle.relation.proofs.Pairs.{zeros}
+use Rattle.std.proofs.Common.{Ok}
+use Prim.Native.Nat.{ℕ, ◌<◌}
 use native.Mathlib.Omega.{arith}
-use native.Mathlib.Decide.{ℕ_discrete}
 use mathlib.Core.Path.{◌≡◌, sym, ap, ◌∙◌}
 use mathlib.Core.Bool.{Bool, true, false}
 use mathlib.Core.List.{List}
-use lib.ListN.{length, get_or, set, length-set}
+use lib.ListN.{replicate, length-replicate, length, get_or, set, length-set}
 use lib.Seq.{get_or-set_same, get_or-set_other}
 use Rattle.model.specs.Trees.{Tree}
 use Rattle.model.specs.declared.Side.{Side}
@@ -22,7 +23,6 @@ use Rattle.nodes.specs.Nodes.{tree_of}
 use Rattle.nodes.proofs.Laws.{nodes-pass}
 use Rattle.tree.specs.File.{nodes_of, read_tree}
 use Rattle.tree.specs.Unpacked.{Unpacked}
-use Rattle.tree.specs.declared.file.ParsedTree.{ParsedTree}
 use Rattle.overloops.specs.Ready.{Headed}
 use Rattle.membership.specs.Grown.{growth_by}
 use Rattle.membership.proofs.Laws.{judged-nodes, growth-nodes}
@@ -36,7 +36,7 @@ use Rattle.judging.specs.Verdicts.{Judges, JudgesWith, ToldOf, JudgedOf}
 
 module _ (A : Automaton) (h : Header) (table : List ℕ) (k : Headed A h table) (s buffer : List ℕ) (n : ℕ) (u : Unpacked s n buffer) where
   told : (b : Bool) (t : Tree) → Writes (signature_in h) (nodes_of n (content s)) t → accepts? A t ≡ b
-      → (read_tree (signature_in h) s ≡ ParsedTree.Nodes n) × (b ≡ accepts? A (tree_of h.branches (nodes_of n (content s))))
+      → (read_tree (signature_in h) s ≡ Ok n) × (b ≡ accepts? A (tree_of h.branches (nodes_of n (content s))))
   told b t w e =
       let passed = (nodes-pass (signature_in h) (nodes_of n (content s)) t).1 w in
       (u.reads (signature_in h) passed.0, sym e ∙ ap (accepts? A) (sym passed.1))
@@ -73,13 +73,9 @@ kept_set counts at v far = record {
     other Side.Left = get_or-set_other counts at 1 v 0 (λ e. omega arith)
     other Side.Right = get_or-set_other counts at 2 v 0 (λ e. omega arith)
 
--- one number more is 0
-pub cleared_more : (l : List ℕ) (i : ℕ) → i < length l → ((j : ℕ) → j < i → get_or l j 0 ≡ 0) → (j : ℕ) → j < i + 1 → get_or (set l i 0) j 0 ≡ 0
-cleared_more l i h f j b = by (ℕ_discrete j i)
-  where
-    by : Dec (j ≡ i) → get_or (set l i 0) j 0 ≡ 0
-    by (yes e) = rw e (get_or-set_same l i 0 0 h)
-    by (no n) = get_or-set_other l i j 0 0 n ∙ f j (omega arith)
+-- numbers that were all written over with 0
+pub cleared : (l l' : List ℕ) → l' ≡ replicate (length l) 0 → (length l' ≡ length l) × ((i : ℕ) → i < length l' → get_or l' i 0 ≡ 0)
+cleared l l' e = rw e (length-replicate (length l) 0, λ i b. zeros (length l) i)
 
 -- a cache that begins anew: the store keeps class 0
 pub renewed : (A : Automaton) (counts store maps cells maps' cells' : List ℕ) (e : ℕ) → CachedIn A counts store maps cells

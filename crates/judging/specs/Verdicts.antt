@@ -1,6 +1,6 @@
 -- What judging by a pass over the nodes tells of a node list and of a tree's file, with the sum of growths where that is asked for; or nothing.
 -- Interface: `Judges`, `JudgesWith`, `ToldOf`, `JudgedOf`.
-use Rattle.std.specs.Prelude.{ℕ, ◌≡◌, Bool, true, List}
+use Rattle.std.specs.Prelude.{ℕ, ◌≡◌, Bool, true, List, Ok}
 use Rattle.model.specs.declared.Signature.{Signature}
 use Rattle.algorithms.specs.Automaton.{Automaton}
 use Rattle.membership.specs.Judged.{judged_by}
@@ -13,8 +13,8 @@ use Rattle.bottom_up.specs.declared.Weighed.{Weighed}
 
 -- what judging answers of the file ..
 abbrev pub Judges : Automaton → (s : List ℕ) → Verdict → Type 0
-Judges A s Verdict.Accepted = Answer.Accepted ≡ judged_by A s
-Judges A s Verdict.Other = Answer.Other ≡ judged_by A s
+Judges A s Verdict.Accepted = Ok Answer.Accepted ≡ judged_by A s
+Judges A s Verdict.Other = Ok Answer.Other ≡ judged_by A s
 Judges A s Verdict.Unknown = Unit {0}
 
 -- .. and its sum

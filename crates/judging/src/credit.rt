@@ -1,10 +1,10 @@
 // What new classes a tree may bring. Trees add to a credit, those that are judged by the cache most, and each new class takes from it: where trees
 // keep bringing new ones, a cache costs more than it saves, and rests until there is credit again.
-ghost use Rattle.std.specs.Prelude.{◌≡◌, List, ℕ, ◌<◌, length, get_or};
+ghost use Rattle.std.specs.Prelude.{◌≡◌, ◌<◌, length};
 ghost use Rattle.algorithms.specs.Automaton.{Automaton};
-ghost use Rattle.class_tables.specs.Cache.{CachedIn, Kept};
+ghost use Rattle.class_tables.specs.Cache.{Cached, Kept};
 
-use class_tables::{Cells, Counts, IndexMaps};
+use class_tables::{Cache, Counts};
 
 // How large a node list is, about the blocks of its file, by which its credit goes.
 pub fn blocks_of(symbols: &[u8]) -> u32
@@ -76,40 +76,18 @@ pub fn end(counts: &mut Counts, gain: u32)
     counts[4] = credit_after(counts[3], counts[0], gain);
 }
 
-fn clear_maps(maps: &mut [u16])
-    ensures { (length maps.new ≡ length maps.old)
-        × ((i : ℕ) → i < length maps.new → get_or maps.new i 0 ≡ 0) }
-{
-    let mut i = 0;
-    while i < maps.len() {
-        maps[i] = 0;
-        i += 1;
-    }
-}
-
-fn clear_cells(cells: &mut [u64])
-    ensures { (length cells.new ≡ length cells.old)
-        × ((i : ℕ) → i < length cells.new → get_or cells.new i 0 ≡ 0) }
-{
-    let mut i = 0;
-    while i < cells.len() {
-        cells[i] = 0;
-        i += 1;
-    }
-}
-
 // Begins anew with a cache that has no room for a class.
-pub fn renew(counts: &mut Counts, maps: &mut IndexMaps, cells: &mut Cells)
-    ensures { (A : Automaton) (store : List ℕ) → CachedIn A counts.old store maps.old cells.old
-        → CachedIn A counts.new store maps.new cells.new }
+pub fn renew(cache: &mut Cache)
+    ensures { (cache.new.store ≡ cache.old.store) × (cache.new.hints ≡ cache.old.hints)
+        × ((A : Automaton) → Cached A cache.old → Cached A cache.new) }
 {
-    if counts[0] < 1024 {
+    if cache.counts[0] < 1024 {
         return;
     }
-    counts[0] = 1;
-    counts[1] = 1;
-    counts[2] = 1;
-    counts[4] = 1024;
-    clear_maps(maps);
-    clear_cells(cells);
+    cache.counts[0] = 1;
+    cache.counts[1] = 1;
+    cache.counts[2] = 1;
+    cache.counts[4] = 1024;
+    cache.maps.fill(0);
+    cache.cells.fill(0);
 }

@@ -12,16 +12,16 @@ ghost use Rattle.overloops.specs.Ready.{Headed};
 ghost use Rattle.membership.specs.Judged.{judged_by, judged};
 ghost use Rattle.membership.specs.Demand2.{Demand2};
 ghost use Rattle.membership.specs.Grown.{growth_by, judged_with, GrowthRight};
-ghost use Rattle.class_tables.specs.Cache.{CachedIn};
+ghost use Rattle.class_tables.specs.Cache.{Cached};
 ghost use Rattle.judging.specs.Verdicts.{Judges, ToldOf, JudgedOf};
 
 use crate::credit::{begin, blocks_of, end, gain, renew, worth};
 use automaton::Header;
-use automaton::file::Parsed;
 use bottom_up::Weighed;
-use class_tables::{Cells, Counts, Hints, IndexMaps, Store};
+use class_tables::Cache;
 use membership::{Answer, Judged};
 use passes::Verdict;
+use refusal::Refusal;
 use transitions::TransitionTable;
 
 // Judges a tree's file by a search over the configurations of the automaton on it: not known where the file is refused.
@@ -30,22 +30,26 @@ fn by_search(header: Header, table: &TransitionTable, file: &[u8]) -> Verdict
     ensures { (A : Automaton) → Headed A header table.now → Judges A file.now result }
 {
     let mut buffer = [0u8; 4572];
-    let k = tree::file::unpack(file, &mut buffer);
-    if k == 0 {
+    let Some(k) = tree::file::unpack(file, &mut buffer) else {
         return Verdict::Unknown;
-    }
+    };
     let last = 4 + k;
     reachability::judge_nodes(&buffer[4..last], header, table)
 }
 
 // The answer of a verdict; where it is not known, of the function that tells every refusal.
-fn answer_of(verdict: Verdict, header: Header, table: &TransitionTable, file: &[u8]) -> Answer
+fn answer_of(
+    verdict: Verdict,
+    header: Header,
+    table: &TransitionTable,
+    file: &[u8],
+) -> Result<Answer, Refusal>
     requires { WithinLimits header }
     ensures { (A : Automaton) → Headed A header table.now → Judges A file.now verdict → result ≡ judged_by A file.now }
 {
     match verdict {
-        Verdict::Accepted => Answer::Accepted,
-        Verdict::Other => Answer::Other,
+        Verdict::Accepted => Ok(Answer::Accepted),
+        Verdict::Other => Ok(Answer::Other),
         Verdict::Unknown => {
             let judged = membership::judge_file(header, table, file);
             judged.answer
@@ -54,7 +58,7 @@ fn answer_of(verdict: Verdict, header: Header, table: &TransitionTable, file: &[
 }
 
 // Judges a tree's file by the search, without the sum.
-pub fn accepts_file(header: Header, table: &TransitionTable, file: &[u8]) -> Answer
+pub fn accepts_file(header: Header, table: &TransitionTable, file: &[u8]) -> Result<Answer, Refusal>
     requires { WithinLimits header }
     ensures { (A : Automaton) → Headed A header table.now → result ≡ judged_by A file.now }
 {
@@ -62,15 +66,13 @@ pub fn accepts_file(header: Header, table: &TransitionTable, file: &[u8]) -> Ans
 }
 
 // Judges a tree's file by an automaton's file, without the sum.
-pub fn accepts(automaton: &[u8], tree: &[u8]) -> Answer
+pub fn accepts(automaton: &[u8], tree: &[u8]) -> Result<Answer, Refusal>
     ensures equals { result ≡ judged automaton.now tree.now }
     ensures right { Demand2 automaton.now tree.now result }
 {
     let mut table = [0u32; 9216];
-    match transitions::load(automaton, &mut table) {
-        Parsed::Refused(refusal) => Answer::Refused(refusal),
-        Parsed::Read(header) => accepts_file(header, &table, tree),
-    }
+    let header = transitions::load(automaton, &mut table)?;
+    accepts_file(header, &table, tree)
 }
 
 // Judges a tree's file by an automaton's file: the answer with the sum of growths.
@@ -81,13 +83,13 @@ pub fn judge(automaton: &[u8], tree: &[u8]) -> Judged
 {
     let mut table = [0u32; 9216];
     match transitions::load(automaton, &mut table) {
-        Parsed::Refused(refusal) => {
+        Err(refusal) => {
             Judged {
-                answer: Answer::Refused(refusal),
+                answer: Err(refusal),
                 growth: 0,
             }
         }
-        Parsed::Read(header) => membership::judge_file(header, &table, tree),
+        Ok(header) => membership::judge_file(header, &table, tree),
     }
 }
 
@@ -114,42 +116,36 @@ fn judge_nodes(
     header: Header,
     table: &TransitionTable,
     sums: bool,
-    counts: &mut Counts,
-    store: &mut Store,
-    maps: &mut IndexMaps,
-    cells: &mut Cells,
-    hints: &mut Hints,
+    cache: &mut Cache,
 ) -> Weighed
     requires { (0 < length symbols.now) × (length symbols.now ≤ 4096) × WithinLimits header }
-    ensures { (A : Automaton) → Headed A header table.now
-        → CachedIn A counts.old store.old maps.old cells.old
-        → CachedIn A counts.new store.new maps.new cells.new
-        × ToldOf A (signature_in header) symbols.now sums result }
+    ensures { (A : Automaton) → Headed A header table.now → Cached A cache.old
+        → Cached A cache.new × ToldOf A (signature_in header) symbols.now sums result }
 {
     let worth = worth(blocks_of(symbols), sums);
-    if !begin(counts, worth) {
+    if !begin(&mut cache.counts, worth) {
         return without_cache(symbols, header, table, sums);
     }
-    let weighed = bottom_up::judge_nodes(symbols, header, table, counts, store, maps, cells, hints);
+    let weighed = bottom_up::judge_nodes(symbols, header, table, cache);
     let verdict = weighed.verdict;
     match verdict {
         Verdict::Accepted => {
-            end(counts, gain(worth));
+            end(&mut cache.counts, gain(worth));
             Weighed {
                 verdict: Verdict::Accepted,
                 growth: weighed.growth,
             }
         }
         Verdict::Other => {
-            end(counts, gain(worth));
+            end(&mut cache.counts, gain(worth));
             Weighed {
                 verdict: Verdict::Other,
                 growth: weighed.growth,
             }
         }
         Verdict::Unknown => {
-            end(counts, worth);
-            renew(counts, maps, cells);
+            end(&mut cache.counts, worth);
+            renew(cache);
             without_cache(symbols, header, table, sums)
         }
     }
@@ -161,37 +157,21 @@ fn by_cache(
     table: &TransitionTable,
     file: &[u8],
     sums: bool,
-    counts: &mut Counts,
-    store: &mut Store,
-    maps: &mut IndexMaps,
-    cells: &mut Cells,
-    hints: &mut Hints,
+    cache: &mut Cache,
 ) -> Weighed
     requires { WithinLimits header }
-    ensures { (A : Automaton) → Headed A header table.now
-        → CachedIn A counts.old store.old maps.old cells.old
-        → CachedIn A counts.new store.new maps.new cells.new × JudgedOf A file.now sums result }
+    ensures { (A : Automaton) → Headed A header table.now → Cached A cache.old
+        → Cached A cache.new × JudgedOf A file.now sums result }
 {
     let mut buffer = [0u8; 4572];
-    let k = tree::file::unpack(file, &mut buffer);
-    if k == 0 {
+    let Some(k) = tree::file::unpack(file, &mut buffer) else {
         return Weighed {
             verdict: Verdict::Unknown,
             growth: 0,
         };
-    }
+    };
     let last = 4 + k;
-    judge_nodes(
-        &buffer[4..last],
-        header,
-        table,
-        sums,
-        counts,
-        store,
-        maps,
-        cells,
-        hints,
-    )
+    judge_nodes(&buffer[4..last], header, table, sums, cache)
 }
 
 // The answer of a verdict with its sum; where it is not known, of the function that tells every refusal and every sum.
@@ -204,13 +184,13 @@ fn judged_of(weighed: Weighed, header: Header, table: &TransitionTable, file: &[
     match verdict {
         Verdict::Accepted => {
             Judged {
-                answer: Answer::Accepted,
+                answer: Ok(Answer::Accepted),
                 growth: weighed.growth,
             }
         }
         Verdict::Other => {
             Judged {
-                answer: Answer::Other,
+                answer: Ok(Answer::Other),
                 growth: weighed.growth,
             }
         }
@@ -224,18 +204,13 @@ pub fn judge_with(
     table: &TransitionTable,
     file: &[u8],
     sums: bool,
-    counts: &mut Counts,
-    store: &mut Store,
-    maps: &mut IndexMaps,
-    cells: &mut Cells,
-    hints: &mut Hints,
+    cache: &mut Cache,
 ) -> Judged
     requires { WithinLimits header }
-    ensures { (A : Automaton) → Headed A header table.now
-        → CachedIn A counts.old store.old maps.old cells.old
-        → CachedIn A counts.new store.new maps.new cells.new × (result.answer ≡ judged_by A file.now)
+    ensures { (A : Automaton) → Headed A header table.now → Cached A cache.old
+        → Cached A cache.new × (result.answer ≡ judged_by A file.now)
         × (sums ≡ true → result.growth ≡ growth_by A file.now) }
 {
-    let weighed = by_cache(header, table, file, sums, counts, store, maps, cells, hints);
+    let weighed = by_cache(header, table, file, sums, cache);
     judged_of(weighed, header, table, file)
 }

@@ -1,5 +1,6 @@
 -- What the pass that links a node list of n nodes knows of the trees read so far: where each stands, and the links inside it.
 -- Interface: `LinkedFrom`, `Placed`, `uncounted`, `Loaded`, `Stepped`.
+use Rattle.std.proofs.Common.{Option, Some, None}
 use Rattle.std.specs.Prelude.{ℕ, ◌+◌, ◌<◌, ◌≤◌, ◌≡◌, List, length, get_or}
 use Rattle.model.specs.Trees.{Tree, size}
 use Rattle.model.specs.declared.Signature.{Signature}
@@ -7,7 +8,6 @@ use Rattle.links.specs.Links.{parents_from, rights_from}
 use Rattle.passes.specs.Told.{low_of}
 use Rattle.passes.specs.Stacked.{Stacked}
 use Rattle.passes.specs.declared.Stack.{Stack}
-use Rattle.linking.specs.declared.Step.{Step}
 
 -- the tables have the links of a tree whose root is node `at`, but for the root's parent, which is not read yet
 pub record LinkedFrom (parents rights : List ℕ) (at : ℕ) (t : Tree) : Type 0 where
@@ -30,6 +30,6 @@ pub record Loaded (sg : Signature) (n : ℕ) (parents rights table s : List ℕ)
   pub stacked : Stacked (Placed n parents rights) uncounted sg table s st 0
 
 -- after a step: they tell of the longer list; or the pass is off
-abbrev pub Stepped : Signature → (n : ℕ) (parents rights table s : List ℕ) → Step → Type 0
-Stepped sg n parents rights table s (Step.On st) = Loaded sg n parents rights table s st
-Stepped sg n parents rights table s Step.Off = Unit {0}
+abbrev pub Stepped : Signature → (n : ℕ) (parents rights table s : List ℕ) → Option Stack → Type 0
+Stepped sg n parents rights table s (Some st) = Loaded sg n parents rights table s st
+Stepped sg n parents rights table s None = Unit {0}

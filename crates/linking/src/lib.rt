@@ -11,15 +11,8 @@ ghost use Rattle.linking.specs.Placed.{Loaded, Stepped};
 
 use algorithms::is_branch;
 use model::{Signature, Symbol};
-use nodes::reader::{Here, read_at};
+use nodes::reader::read_at;
 use passes::{Stack, height_over, merge, packed, push};
-
-// What a step of the pass gives: the stack after the node; or that the pass is off.
-#[derive(Clone, Copy)]
-enum Step {
-    On(Stack),
-    Off,
-}
 
 // The node that a word of the stack names.
 fn node_of(word: u64) -> usize
@@ -28,21 +21,21 @@ fn node_of(word: u64) -> usize
     (word % 4294967296) as usize
 }
 
-// A leaf.
-fn leaf_step(at: usize, stack: Stack, words: &mut [u64; 128], rights: &mut [u16]) -> Step
+// A leaf: the stack after it; none where the pass is off.
+fn leaf_step(at: usize, stack: Stack, words: &mut [u64; 128], rights: &mut [u16]) -> Option<Stack>
     requires { (at < 4096) × (at < length rights.old) }
     ensures { (sg : Signature) (n σ : ℕ) (parents s : List ℕ) → σ < sg.symbols → member sg.branches σ ≡ false → at + 1 + length s ≡ n
         → Loaded sg n parents rights.old words.old s stack
         → Stepped sg n parents rights.new words.new (σ ∷ s) result }
 {
     if stack.top == 0 {
-        return Step::Off;
+        return None;
     }
     if 128 < stack.top {
-        return Step::Off;
+        return None;
     }
     rights[at] = 0;
-    Step::On(push(words, stack, packed(0, at as u32)))
+    Some(push(words, stack, packed(0, at as u32)))
 }
 
 // A branch over the two trees on top: it is the parent of both.
@@ -52,33 +45,33 @@ fn branch_step(
     words: &mut [u64; 128],
     parents: &mut [u16],
     rights: &mut [u16],
-) -> Step
+) -> Option<Stack>
     requires { (at < 4096) × (at < length rights.old) }
     ensures { (sg : Signature) (n σ : ℕ) (s : List ℕ) → σ < sg.symbols → member sg.branches σ ≡ true → at + 1 + length s ≡ n
         → Loaded sg n parents.old rights.old words.old s stack
         → Stepped sg n parents.new rights.new words.new (σ ∷ s) result }
 {
     if 126 < stack.top {
-        return Step::Off;
+        return None;
     }
     let height = height_over(stack.first, stack.second);
     if 64 < height {
-        return Step::Off;
+        return None;
     }
     let right = node_of(stack.second);
     if 4095 < right {
-        return Step::Off;
+        return None;
     }
     if parents.len() <= right {
-        return Step::Off;
+        return None;
     }
     if right <= at + 1 {
-        return Step::Off;
+        return None;
     }
     parents[at + 1] = at as u16;
     parents[right] = at as u16;
     rights[at] = right as u16;
-    Step::On(merge(words, stack, packed(height, at as u32)))
+    Some(merge(words, stack, packed(height, at as u32)))
 }
 
 // A node: off where its symbol is none of the signature's.
@@ -90,14 +83,14 @@ fn node_step(
     words: &mut [u64; 128],
     parents: &mut [u16],
     rights: &mut [u16],
-) -> Step
+) -> Option<Stack>
     requires { (at < 4096) × (at < length rights.old) }
     ensures { (n : ℕ) (s : List ℕ) → at + 1 + length s ≡ n
         → Loaded signature n parents.old rights.old words.old s stack
         → Stepped signature n parents.new rights.new words.new (symbol.0 ∷ s) result }
 {
     if signature.symbols <= symbol.0 {
-        return Step::Off;
+        return None;
     }
     if is_branch(signature.branches, symbol) {
         branch_step(at, stack, words, parents, rights)
@@ -124,15 +117,13 @@ pub fn link_tree(
         first: 0,
         second: 0,
     };
-    let mut at = symbols.len();
-    while 0 < at {
-        at -= 1;
-        let Here::Node(symbol) = read_at(symbols, at) else {
+    for at in (0..symbols.len()).rev() {
+        let Some(symbol) = read_at(symbols, at) else {
             return false;
         };
         match node_step(signature, symbol, at, stack, &mut words, parents, rights) {
-            Step::On(next) => stack = next,
-            Step::Off => return false,
+            Some(next) => stack = next,
+            None => return false,
         }
     }
     parents[0] = 0;

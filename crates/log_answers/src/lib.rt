@@ -6,22 +6,24 @@ use log_pairs::Pair;
 use log_runs::answer::{Held, Question, expected_of};
 use log_runs::entries::MOST;
 use log_trials::faults;
-use sampling::access::has;
+use sampling::access::{has, same_bytes};
 use sampling::rules::Automaton;
 use search::files;
 use watch_trials::counts::count_if;
-use watch_trials::lent::same_bytes;
 
 // Stands in all five numbers before, so that each has to be written.
 const BEFORE: usize = 77777;
 
-fn same_numbers(told: [usize; 5], held: Held) -> bool {
+// What has to be told.
+fn numbers_of(held: Held) -> [usize; 5] {
     let refusal = held.refusal;
-    told[0] == refusal.number
-        && told[1] == refusal.file
-        && told[2] == refusal.place
-        && told[3] == held.first
-        && told[4] == held.second
+    [
+        refusal.number,
+        refusal.file,
+        refusal.place,
+        held.first,
+        held.second,
+    ]
 }
 
 // Whether a part has so many entries, and the bytes of both logs.
@@ -34,7 +36,7 @@ fn same_part(part: &[u8], first: &[u8], second: &[u8], entries: usize) -> bool {
 fn answers(automaton: &[u8], tree: &[u8], first: &[u8], second: &[u8], held: Held) -> bool {
     let mut told = [BEFORE; 5];
     let part = logs::compare(automaton, tree, first, second, &mut told);
-    same_numbers(told, held) && same_part(part, first, second, held.agreed)
+    told == numbers_of(held) && same_part(part, first, second, held.agreed)
 }
 
 // Counts what has to be answered and whether it is. The files and logs stand in buffers that have room for more.

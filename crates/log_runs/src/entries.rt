@@ -19,10 +19,6 @@ pub fn entry(log: &[u8], k: usize) -> Position {
     }
 }
 
-fn same(p: Position, q: Position) -> bool {
-    p.node == q.node && p.state == q.state
-}
-
 // ---- records
 
 pub fn has_symbol(records: &[u8], record: usize, nodes: &[usize], p: Position) -> bool {
@@ -47,7 +43,7 @@ pub fn applies(records: &[u8], record: usize, nodes: &[usize], p: Position) -> b
 
 // Whether the step by a record leads from one position to another.
 fn leads(records: &[u8], record: usize, nodes: &[usize], p: Position, q: Position) -> bool {
-    applies(records, record, nodes, p) && same(moved(records, record, nodes, p), q)
+    applies(records, record, nodes, p) && moved(records, record, nodes, p) == q
 }
 
 // Whether that by any record does.
@@ -85,7 +81,7 @@ pub fn run_length(a: Automaton, records: &[u8], nodes: &[usize], log: &[u8], n: 
 // In how many of their first n entries two logs agree.
 pub fn agreed(first: &[u8], second: &[u8], n: usize) -> usize {
     for k in 0..n {
-        if !same(entry(first, k), entry(second, k)) {
+        if entry(first, k) != entry(second, k) {
             return k;
         }
     }

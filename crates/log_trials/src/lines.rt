@@ -1,11 +1,11 @@
 // The lines that tell the counts.
 use log_counts::{
-    AGREED, COUNTS, DIFFERENT, ENDED, FAULTS, FIRST_RUN, FIRST_WAY, HIGH, LATER, LENGTH, LONG,
-    NOT_SINGLE, PAIRS, PARTED, PASSED, SECOND_RUN, SECOND_WAY, SEVERAL, STAYED,
+    AGREED, DIFFERENT, ENDED, FAULTS, FIRST_RUN, FIRST_WAY, HIGH, LATER, LENGTH, LONG, NOT_SINGLE,
+    PAIRS, PARTED, PASSED, SECOND_RUN, SECOND_WAY, SEVERAL, STAYED,
 };
 use log_pairs::change::WAYS;
 use sampling::access::number;
-use sampling::report::{labelled, text};
+use sampling::report::{labelled, row, text};
 use watch_trials::counts::refusals;
 
 fn print_pairs(counts: &[usize]) {
@@ -16,32 +16,23 @@ fn print_pairs(counts: &[usize]) {
     text(b"\n");
 }
 
-// A line with so many counts.
-fn row(label: &[u8], counts: &[usize], from: usize, n: usize) {
-    text(label);
-    for i in 0..n {
-        labelled(b" ", number(counts, from % COUNTS + i % COUNTS));
-    }
-    text(b"\n");
-}
-
 fn print_ways(counts: &[usize]) {
     text(b"equal, beginning, longer, parted, another, slipped, ");
     text(b"low byte, high byte, state, repeated, dropped, swapped, random, empty\n");
-    row(b"first log:", counts, FIRST_WAY, WAYS);
-    row(b"second log:", counts, SECOND_WAY, WAYS);
+    row(b"first log:", counts, FIRST_WAY, FIRST_WAY + WAYS);
+    row(b"second log:", counts, SECOND_WAY, SECOND_WAY + WAYS);
 }
 
 fn print_extents(counts: &[usize]) {
     text(b"in full, in part, not at all, empty\n");
-    row(b"agree:", counts, AGREED, 4);
-    row(b"first log lawful:", counts, FIRST_RUN, 4);
-    row(b"second log lawful:", counts, SECOND_RUN, 4);
+    row(b"agree:", counts, AGREED, AGREED + 4);
+    row(b"first log lawful:", counts, FIRST_RUN, FIRST_RUN + 4);
+    row(b"second log lawful:", counts, SECOND_RUN, SECOND_RUN + 4);
     row(
         b"not to the end, by first entry, node, state, step:",
         counts,
         ENDED,
-        4,
+        ENDED + 4,
     );
 }
 
@@ -58,7 +49,12 @@ fn print_entries(counts: &[usize]) {
 fn print_refusals(counts: &[usize]) {
     refusals(b"automaton refused, 1 to 12:", counts, 0);
     refusals(b"tree refused, 1 to 12:", counts, 1);
-    row(b"refused 23, first log, second log:", counts, LENGTH, 2);
+    row(
+        b"refused 23, first log, second log:",
+        counts,
+        LENGTH,
+        LENGTH + 2,
+    );
 }
 
 pub fn print(counts: &[usize]) {

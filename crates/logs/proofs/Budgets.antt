@@ -1,5 +1,6 @@
 -- Two walks of one automaton on one tree, by W7: with the smaller budget the log is the beginning of the other's.
 -- Assumes nothing.
+use Rattle.std.proofs.Common.{Option, Some, None}
 use Prim.Native.Nat.{ℕ, zero, suc, ◌+◌, ◌*◌, ◌≤◌}
 use native.Mathlib.Omega.{arith}
 use mathlib.Core.Path.{◌≡◌, refl, sym, ap, ◌∙◌}
@@ -11,8 +12,7 @@ use lib.Seq.{take-length}
 use Rattle.model.specs.Trees.{Tree}
 use Rattle.algorithms.specs.Automaton.{Automaton}
 use Rattle.steps.specs.Successors.{successor}
-use Rattle.steps.specs.declared.Successor.{Successor}
-use Rattle.steps.specs.declared.Successor.TheVariants.{To, Nowhere}
+use Rattle.steps.specs.declared.Configuration.{Configuration}
 use Rattle.watch.specs.Walk.{Entry, Walk, ends, logged, passes, most_steps, in_order, walk_from, bytes_of}
 use Rattle.watch.specs.declared.Watched.{Watched}
 use Rattle.watch.proofs.Logs.{bytes-length}
@@ -26,12 +26,12 @@ Opens es fs = take (length es) fs ≡ es
 
 module _ (A : Automaton) (t : Tree) where
   -- a turn is the same, but for what comes after it
-  turn : (made i p : ℕ) (b : Bool) (y : Successor) (c : Bool) (f g : ℕ → ℕ → Walk) → ((j q : ℕ) → Opens (f j q).entries (g j q).entries)
+  turn : (made i p : ℕ) (b : Bool) (y : Option Configuration) (c : Bool) (f g : ℕ → ℕ → Walk) → ((j q : ℕ) → Opens (f j q).entries (g j q).entries)
       → Opens (in_order b y c (ends made i p) f).entries (in_order b y c (ends made i p) g).entries
   turn made i p true y c f g h = refl
-  turn made i p false Nowhere c f g h = refl
-  turn made i p false (To j q) true f g h = refl
-  turn made i p false (To j q) false f g h = h j q.0
+  turn made i p false None c f g h = refl
+  turn made i p false (Some d) true f g h = refl
+  turn made i p false (Some d) false f g h = h d.node d.state.0
 
   -- where it goes on, with so many of the budget left
   abbrev onward : (left made i p : ℕ) → ℕ → ℕ → Walk

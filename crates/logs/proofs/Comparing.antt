@@ -1,5 +1,6 @@
 -- The laws of document 02's W8, of two logs held together. The quotations are of W8. `Right` has them of files.
 -- Assumes nothing.
+use Rattle.std.proofs.Common.{Ok}
 use Prim.Native.Nat.{ℕ, suc, ◌+◌, ◌*◌, ◌%◌, ◌≤◌, ◌<◌}
 use native.Mathlib.Omega.{arith}
 use mathlib.Core.Path.{◌≡◌, refl, sym, ap, ap₂, ◌∙◌, subst}
@@ -20,6 +21,7 @@ use Rattle.membership.specs.Judged.{signature_of}
 use Rattle.watch.specs.Walk.{Entry, bytes_of}
 use Rattle.watch.specs.Watch.{Outcome, watch_of}
 use Rattle.watch.specs.Promise.{steps_of, Logged, stands as logged-end, steps as logged-step, Watches}
+use Rattle.watch.specs.declared.Watched.{Watched}
 use Rattle.watch.proofs.Logs.{bytes-length}
 use Rattle.watch.proofs.Watching.{log-front}
 use Rattle.watch.proofs.Right.{watch-right}
@@ -29,9 +31,8 @@ use Rattle.agreement.proofs.Agreeing.{common-longest}
 use Rattle.logs.specs.Prefix.{entries_of, run_prefix}
 use Rattle.logs.specs.Compare.{compared_of}
 use Rattle.logs.specs.Promise.{Traced, stands, steps, Lawful}
-use Rattle.logs.specs.declared.Compared.{Compared}
 use Rattle.logs.proofs.Entries.{entries-back}
-use Rattle.logs.proofs.Watched.{log_of, Unrefused, both-were-read, file-log}
+use Rattle.logs.proofs.Watched.{log_of, both-were-read, file-log}
 use Rattle.logs.proofs.Budgets.{smaller-opens, opens-part}
 use Rattle.logs.proofs.Runs.{traced-run, prefix-counts}
 use Rattle.logs.proofs.Telling.{both-whole, tree-counted}
@@ -86,12 +87,12 @@ module _ (A : Automaton) (t : Tree) where
   logged-traced (logged-end n) = stands n
   logged-traced (logged-step n h x l) = steps n x (logged-traced l)
 
-  watched-lawful : (budget : ℕ) (before : List ℕ) (o : Outcome) (w : Watches A t budget before o) → Lawful A t w.entries
-  watched-lawful budget before o w = record { start = w.start; starts = w.starts; last = w.last; traced = logged-traced w.run }
+  watched-lawful : (budget : ℕ) (before : List ℕ) (x : Watched) (after : List ℕ) (w : Watches A t budget before x after) → Lawful A t w.entries
+  watched-lawful budget before x after w = record { start = w.start; starts = w.starts; last = w.last; traced = logged-traced w.run }
 
   -- the log is the buffer's front, an entry more than steps
-  watched-log : (budget : ℕ) (before : List ℕ) (o : Outcome) (w : Watches A t budget before o) → log_of o ≡ bytes_of w.entries
-  watched-log budget before o w =
+  watched-log : (budget : ℕ) (before : List ℕ) (x : Watched) (after : List ℕ) (w : Watches A t budget before x after) → log_of x after ≡ bytes_of w.entries
+  watched-log budget before x after w =
       ap₂ (λ (k : ℕ) (x : List ℕ). take (3 * k) x) (sym w.made) w.log ∙ log-front w.entries before
 
 -- .. of files, for every automaton, tree and budget that W7 does not refuse: beside any log of whole entries it is counted to its end
@@ -99,33 +100,34 @@ module _ (w s : List ℕ) (budget : ℕ) (before b : List ℕ) (three : length b
   abbrev o : Outcome
   o = watch_of w s budget before
 
-  pub watched-counted : Unrefused o → (n : ℕ) × (compared_of w s (log_of o) b ≡ Compared.Counted (steps_of o.answer + 1) n)
-  watched-counted free =
-      let f = both-were-read w s budget before free in
+  pub watched-counted : (x : Watched) → o.answer ≡ Ok x
+      → (n : ℕ) × (compared_of w s (log_of x o.log) b ≡ Ok (record { first = steps_of x + 1; second = n }))
+  watched-counted x e =
+      let f = both-were-read w s budget before x e in
       let A = automaton_of f.header (content w) in
       let t = tree_of A.branches (nodes_of f.nodes (content s)) in
       let writes = (tree-read (signature_of A) s f.nodes f.tree-read-is).tree in
-      let x = (watch-right w s budget before).watches f.header f.nodes t f.automaton-read f.tree-read-is writes free in
-      let log = watched-log A t budget before o x in
-      let back : entries_of (log_of o) ≡ x.entries = ap entries_of log ∙ entries-back x.entries in
-      let all : steps_of o.answer + 1 ≡ run_prefix A t (entries_of (log_of o)) =
-      sym (ap (run_prefix A t) back ∙ lawful-counted A t x.entries (watched-lawful A t budget before o x) ∙ x.made) in
-      let whole : length (log_of o) % 3 ≡ 0 = omega (arith, ap length log, bytes-length x.entries) in (
+      let v = (watch-right w s budget before).watches f.header f.nodes t f.automaton-read f.tree-read-is writes x e in
+      let log = watched-log A t budget before x o.log v in
+      let back : entries_of (log_of x o.log) ≡ v.entries = ap entries_of log ∙ entries-back v.entries in
+      let all : steps_of x + 1 ≡ run_prefix A t (entries_of (log_of x o.log)) =
+      sym (ap (run_prefix A t) back ∙ lawful-counted A t v.entries (watched-lawful A t budget before x o.log v) ∙ v.made) in
+      let whole : length (log_of x o.log) % 3 ≡ 0 = omega (arith, ap length log, bytes-length v.entries) in (
         run_prefix A t (entries_of b),
-        nodes-read w s (log_of o) b f.header f.automaton-read f.nodes f.tree-read-is
-            ∙ sym (tree-counted A t (log_of o) b (both-whole (log_of o) b whole three) _ _ all refl),
+        nodes-read w s (log_of x o.log) b f.header f.automaton-read f.nodes f.tree-read-is
+            ∙ sym (tree-counted A t (log_of x o.log) b (both-whole (log_of x o.log) b whole three) _ _ all refl),
       )
 
 -- ---- "Both panels of a line now log the walk of W7": two such logs part nowhere, and the part is the whole log of the smaller budget
 
 pub panels-agree : (w s : List ℕ) (less more : ℕ) (before before' : List ℕ) → less ≤ more
-    → Unrefused (watch_of w s less before) → Unrefused (watch_of w s more before')
-    → common_part (log_of (watch_of w s less before)) (log_of (watch_of w s more before')) ≡ log_of (watch_of w s less before)
-panels-agree w s less more before before' l free free' =
-    let f = both-were-read w s less before free in
+    → (x : Watched) → (watch_of w s less before).answer ≡ Ok x → (y : Watched) → (watch_of w s more before').answer ≡ Ok y
+    → common_part (log_of x (watch_of w s less before).log) (log_of y (watch_of w s more before').log) ≡ log_of x (watch_of w s less before).log
+panels-agree w s less more before before' l x e y e' =
+    let f = both-were-read w s less before x e in
     let A = automaton_of f.header (content w) in
     let t = tree_of A.branches (nodes_of f.nodes (content s)) in
     let start = lowest_of A.initial in
-    let one = file-log w s less before f.header f.nodes f.automaton-read f.tree-read-is free in
-    let two = file-log w s more before' f.header f.nodes f.automaton-read f.tree-read-is free' in
+    let one = file-log w s less before f.header f.nodes f.automaton-read f.tree-read-is x e in
+    let two = file-log w s more before' f.header f.nodes f.automaton-read f.tree-read-is y e' in
     ap₂ common_part one two ∙ opens-part _ _ (smaller-opens A t less more 0 0 start l) ∙ sym one

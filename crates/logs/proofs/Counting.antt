@@ -78,12 +78,12 @@ module _ {initial : ℕ} {s table P R : List ℕ} (w : Countable initial s table
         let low = node-within w.tables e.0 g.node in
         (low.0, low.1, low.2, low.3, w.symbols e.0 g.node, omega (arith, g.state, w.proper.few))
 
-    pub all-counted : n ≤ k → k ≡ run_prefix A t (entries_of log)
+    pub all-counted : n ≤ k → n ≡ run_prefix A t (entries_of log)
     unfolding run_after
     all-counted l =
         let none : entries_of (drop (3 * k) log) ≡ [] = entries-end log k (omega (arith, g.whole)) in
         let rest : run_after A t e (entries_of (drop (3 * k) log)) ≡ 0 = rw none in
-        omega (arith, g.left, rest)
+        omega (arith, g.left, g.within, rest)
 
     module _ (more : k < n) (f : Entry) (next : f ≡ entry_at log k) (r : Bool)
         (led : r ≡ leads_in (next_in table) s P R e.0 e.1 f.0 f.1) where

@@ -1,5 +1,6 @@
 -- No refusal has the number 0: of checks in order, of both files, and of two logs.
 -- Assumes nothing.
+use Rattle.std.proofs.Common.{Option, Some, None, Result, Ok, Err}
 use Prim.Native.Nat.{ℕ, zero, suc, ◌+◌, ◌/◌, ◌%◌, ◌<◌}
 use native.Mathlib.Omega.{arith}
 use mathlib.Core.Path.{◌≡◌, refl, sym, ap, ◌∙◌, subst}
@@ -9,13 +10,9 @@ use lib.Dec.{eqb, ltb}
 use lib.ListN.{length, get_or}
 use Rattle.blocks.specs.Search.{lowest}
 use Rattle.blocks.specs.Blocks.{check_wrong, content}
-use Rattle.blocks.specs.declared.Found.{Found}
-use Rattle.blocks.specs.declared.Found.TheVariants.{At, Nothing}
 use Rattle.refusal.specs.Numbers.{number_of}
-use Rattle.refusal.specs.Checks.{refused, refuse_if, refuse_at, ◌and_then◌, check_from}
+use Rattle.refusal.specs.Checks.{refused, refuse_if, refuse_at, ◌and_then◌, check_from, Check}
 use Rattle.refusal.specs.Lines.{length_check, blocks_check, file_check, kind_check, count_check, blocks_needed, size_check, not_zero, filler_check}
-use Rattle.refusal.specs.declared.Check.{Check}
-use Rattle.refusal.specs.declared.Check.TheVariants.{Passed, Refused}
 use Rattle.refusal.specs.declared.Fault.{Fault}
 use Rattle.refusal.specs.declared.Refusal.{Refusal}
 use Rattle.refusal.specs.declared.lines.Format.{Format}
@@ -29,20 +26,18 @@ use Rattle.membership.specs.Judged.{signature_of}
 use Rattle.automaton.specs.Rules.{rule_at, misplaced, rule_refusal, rule_check}
 use Rattle.automaton.specs.File.{format, header_of, payload, counts_check, beyond, sets_check, rules_check, layout_check, body_check, read_of, parsed}
 use Rattle.automaton.specs.declared.Header.{Header}
-use Rattle.automaton.specs.declared.rules.RuleBytes.{RuleBytes}
-use Rattle.automaton.specs.declared.file.Parsed.{Parsed}
 use Rattle.nodes.specs.Nodes.{no_symbol, symbols_check, opened, parts_from, shape_check, tree_of, Depth, Next, Deep, depth_of, refuse_deep, height_check, nodes_check}
 use Rattle.tree.specs.File.{tree_format, count_of, nodes_of, layout_check as tree-layout, body_check as tree-body, nodes_if, read_tree}
-use Rattle.tree.specs.declared.file.ParsedTree.{ParsedTree}
 use Rattle.logs.specs.Checks.{logs_check}
 use Rattle.logs.specs.Prefix.{entries_of, run_prefix}
 use Rattle.logs.specs.Compare.{count_if, compared_tree, compared_read, compared_by, compared_of}
 use Rattle.logs.specs.declared.Compared.{Compared}
 use Rattle.logs.proofs.Telling.{both-refused, both_read}
+use Rattle.automaton.specs.declared.Rule.{Rule}
 
 -- a check that refuses by a number
 abbrev Numbered : Check → Type 0
-Numbered c = (r : Refusal) → c ≡ Refused r → 0 < r.number
+Numbered c = (r : Refusal) → c ≡ Err r → 0 < r.number
 
 fault-numbered : (f : Fault) → 0 < number_of f
 fault-numbered Fault.Length = omega arith
@@ -74,20 +69,20 @@ refusal-numbered f file place r e =
     let same : ◌≡◌ {A = Refusal} (record { number = number_of f; file = file; place = place }) r = cc in
     subst (λ (x : Refusal). 0 < x.number) same (fault-numbered f)
 
-pass-numbered : Numbered Passed
+pass-numbered : Numbered (Ok tt)
 pass-numbered r e = clash (cc)
 
 if-numbered : (b : Bool) (f : Fault) (file place : ℕ) → Numbered (refuse_if b f file place)
 if-numbered true f file place = refusal-numbered f file place
 if-numbered false f file place = pass-numbered
 
-at-numbered : (f : Fault) (file : ℕ) (x : Found) → Numbered (refuse_at f file x)
-at-numbered f file (At place) = refusal-numbered f file place
-at-numbered f file Nothing = pass-numbered
+at-numbered : (f : Fault) (file : ℕ) (x : Option ℕ) → Numbered (refuse_at f file x)
+at-numbered f file (Some place) = refusal-numbered f file place
+at-numbered f file None = pass-numbered
 
 then-numbered : (a b : Check) → Numbered a → Numbered b → Numbered (a and_then b)
-then-numbered Passed b x y = y
-then-numbered (Refused r) b x y = x
+then-numbered (Ok tt) b x y = y
+then-numbered (Err r) b x y = x
 
 each-numbered : (check : ℕ → Check) → ((i : ℕ) → Numbered (check i)) → (i n : ℕ) → Numbered (check_from check i n)
 unfolding check_from
@@ -122,9 +117,9 @@ count-numbered f count least most at = if-numbered (ltb count least || ltb most 
 
 -- ---- an automaton's file
 
-rule-numbered : (branches i : ℕ) (x : RuleBytes) → Numbered (rule_refusal branches i x)
-rule-numbered branches i RuleBytes.Unknown = refusal-numbered Fault.Value 0 i
-rule-numbered branches i (RuleBytes.Known r) = if-numbered (misplaced branches r) Fault.Move 0 i
+rule-numbered : (branches i : ℕ) (x : Option Rule) → Numbered (rule_refusal branches i x)
+rule-numbered branches i None = refusal-numbered Fault.Value 0 i
+rule-numbered branches i (Some r) = if-numbered (misplaced branches r) Fault.Move 0 i
 
 rules-numbered : (h : Header) (p : List ℕ) → Numbered (rules_check h p)
 unfolding rules_check rule_check
@@ -168,15 +163,15 @@ automaton-numbered h s p =
     then-numbered (file_check format s) (layout_check h p and_then body_check h p) (file-numbered format s)
     (then-numbered (layout_check h p) (body_check h p) (layout-numbered h p) (body-numbered h p))
 
-parsed-numbered : (w : List ℕ) (r : Refusal) → parsed w ≡ Parsed.Refused r → 0 < r.number
+parsed-numbered : (w : List ℕ) (r : Refusal) → parsed w ≡ Err r → 0 < r.number
 unfolding parsed
 parsed-numbered w r e =
     let p = content w in
     by (file_check format w and_then layout_check (header_of p) p and_then body_check (header_of p) p) (automaton-numbered (header_of p) w p) e
   where
-    by : (c : Check) → Numbered c → read_of c (header_of (content w)) ≡ Parsed.Refused r → 0 < r.number
-    by Passed n f = clash (cc)
-    by (Refused x) n f = let same : x ≡ r = cc in n r (ap Refused same)
+    by : (c : Check) → Numbered c → read_of c (header_of (content w)) ≡ Err r → 0 < r.number
+    by (Ok _) n f = clash (cc)
+    by (Err x) n f = let same : x ≡ r = cc in n r (ap Err same)
 
 -- ---- a tree's file
 
@@ -213,15 +208,15 @@ tree-numbered sg s p =
     (then-numbered count size (count-numbered tree_format k 1 4096 2) (size-numbered tree_format p (4 + k))))
     (then-numbered filler nodes (filler-numbered tree_format p (4 + k)) (nodes-numbered sg (nodes_of k p))))
 
-tree-read-numbered : (sg : Signature) (s : List ℕ) (r : Refusal) → read_tree sg s ≡ ParsedTree.Refused r → 0 < r.number
+tree-read-numbered : (sg : Signature) (s : List ℕ) (r : Refusal) → read_tree sg s ≡ Err r → 0 < r.number
 unfolding read_tree
 tree-read-numbered sg s r e =
     let p = content s in
     by (file_check tree_format s and_then tree-layout p and_then tree-body sg p) (tree-numbered sg s p) e
   where
-    by : (c : Check) → Numbered c → nodes_if c (count_of (content s)) ≡ ParsedTree.Refused r → 0 < r.number
-    by Passed n f = clash (cc)
-    by (Refused x) n f = let same : x ≡ r = cc in n r (ap Refused same)
+    by : (c : Check) → Numbered c → nodes_if c (count_of (content s)) ≡ Err r → 0 < r.number
+    by (Ok _) n f = clash (cc)
+    by (Err x) n f = let same : x ≡ r = cc in n r (ap Err same)
 
 -- ---- two logs
 
@@ -233,28 +228,28 @@ logs-numbered a b =
     then-numbered (refuse_if one Fault.Log 2 0) (refuse_if two Fault.Log 2 1) (if-numbered one Fault.Log 2 0) (if-numbered two Fault.Log 2 1)
 
 module _ (A : Automaton) (s a b : List ℕ) (r : Refusal) where
-  counts-numbered : (t : Tree) → compared_tree A t a b ≡ Compared.Refused r → 0 < r.number
+  counts-numbered : (t : Tree) → compared_tree A t a b ≡ Err r → 0 < r.number
   unfolding compared_tree
   counts-numbered t e = by (logs_check a b) (logs-numbered a b) e
     where
-      by : (c : Check) → Numbered c → count_if c (run_prefix A t (entries_of a)) (run_prefix A t (entries_of b)) ≡ Compared.Refused r → 0 < r.number
-      by Passed n f = clash (cc)
-      by (Refused x) n f = let same : x ≡ r = cc in n r (ap Refused same)
+      by : (c : Check) → Numbered c → count_if c (run_prefix A t (entries_of a)) (run_prefix A t (entries_of b)) ≡ Err r → 0 < r.number
+      by (Ok _) n f = clash (cc)
+      by (Err x) n f = let same : x ≡ r = cc in n r (ap Err same)
 
-  read-numbered : compared_by A s a b ≡ Compared.Refused r → 0 < r.number
+  read-numbered : compared_by A s a b ≡ Err r → 0 < r.number
   unfolding compared_by
   read-numbered e = by (read_tree (signature_of A) s) refl e
     where
-      by : (x : ParsedTree) → read_tree (signature_of A) s ≡ x → compared_read A x s a b ≡ Compared.Refused r → 0 < r.number
-      by (ParsedTree.Refused x) f g = let same : x ≡ r = cc in tree-read-numbered (signature_of A) s r (f ∙ ap ParsedTree.Refused same)
-      by (ParsedTree.Nodes k) f g = counts-numbered (tree_of A.branches (nodes_of k (content s))) g
+      by : (x : Result ℕ Refusal) → read_tree (signature_of A) s ≡ x → compared_read A x s a b ≡ Err r → 0 < r.number
+      by (Err x) f g = let same : x ≡ r = cc in tree-read-numbered (signature_of A) s r (f ∙ ap Err same)
+      by (Ok k) f g = counts-numbered (tree_of A.branches (nodes_of k (content s))) g
 
-pub compared-numbered : (w s a b : List ℕ) (r : Refusal) → compared_of w s a b ≡ Compared.Refused r → 0 < r.number
+pub compared-numbered : (w s a b : List ℕ) (r : Refusal) → compared_of w s a b ≡ Err r → 0 < r.number
 compared-numbered w s a b r e = by (parsed w) refl
   where
-    by : (x : Parsed) → parsed w ≡ x → 0 < r.number
-    by (Parsed.Read h) f = read-numbered (automaton_of h (content w)) s a b r (sym (both_read w s a b h f) ∙ e)
-    by (Parsed.Refused x) f =
-        let g : Compared.Refused x ≡ Compared.Refused r = both-refused w s a b x f ∙ e in
+    by : (x : Result Header Refusal) → parsed w ≡ x → 0 < r.number
+    by (Ok h) f = read-numbered (automaton_of h (content w)) s a b r (sym (both_read w s a b h f) ∙ e)
+    by (Err x) f =
+        let g : ◌≡◌ {A = Result Compared Refusal} (Err x) (Err r) = both-refused w s a b x f ∙ e in
         let same : x ≡ r = cc in
-        parsed-numbered w r (f ∙ ap Parsed.Refused same)
+        parsed-numbered w r (f ∙ ap Err same)

@@ -1,5 +1,6 @@
 -- What a watch left (W7): both files were read where it was not refused, and its log has the bytes of the walk's entries.
 -- Assumes nothing.
+use Rattle.std.proofs.Common.{Result, Ok, Err}
 use Prim.Native.Nat.{ℕ, ◌+◌, ◌*◌}
 use native.Mathlib.Omega.{arith}
 use mathlib.Core.Path.{◌≡◌, refl, sym, ap, ◌∙◌}
@@ -9,17 +10,13 @@ use Rattle.relation.specs.Lowest.{lowest_of}
 use Rattle.model.specs.Trees.{Tree}
 use Rattle.algorithms.specs.Automaton.{Automaton}
 use Rattle.blocks.specs.Blocks.{content}
-use Rattle.refusal.specs.declared.Check.{Check}
-use Rattle.refusal.specs.declared.Check.TheVariants.{Passed, Refused}
 use Rattle.refusal.specs.declared.Refusal.{Refusal}
 use Rattle.automaton.specs.File.{parsed}
 use Rattle.automaton.specs.declared.Header.{Header}
-use Rattle.automaton.specs.declared.file.Parsed.{Parsed}
 use Rattle.transitions.specs.Transitions.{automaton_of}
 use Rattle.determinism.specs.Determined.{determined}
 use Rattle.nodes.specs.Nodes.{tree_of}
 use Rattle.tree.specs.File.{nodes_of, read_tree}
-use Rattle.tree.specs.declared.file.ParsedTree.{ParsedTree}
 use Rattle.membership.specs.Judged.{signature_of}
 use Rattle.watch.specs.Walk.{walk_from, walk, bytes_of}
 use Rattle.watch.specs.Checks.{watch_check}
@@ -30,19 +27,18 @@ use Rattle.watch.proofs.Turns.{by-turns}
 use Rattle.watch.proofs.Telling.{both-refused, both_read}
 use Rattle.watch.proofs.Watching.{log-front}
 use Rattle.watch.proofs.Right.{nodes-read}
+use Rattle.refusal.specs.Checks.{Check}
+use Rattle.refusal.proofs.Passed.{clash}
 
--- the log of a watch: the steps are in the answer
-abbrev pub log_of : Outcome → List ℕ
-log_of o = take (3 * (steps_of o.answer + 1)) o.log
-
-abbrev pub Unrefused : Outcome → Type 0
-Unrefused o = (r : Refusal) → ¬ (o.answer ≡ Watched.Refused r)
+-- the log of a watch that was not refused, in the buffer that was lent: the steps are in the answer
+abbrev pub log_of : Watched → (buffer : List ℕ) → List ℕ
+log_of x buffer = take (3 * (steps_of x + 1)) buffer
 
 -- ---- the files
 
 -- a refused tree is told by a watch
-tree-refusal : (w s : List ℕ) (budget : ℕ) (before : List ℕ) (h : Header) → parsed w ≡ Parsed.Read h → (r : Refusal)
-    → read_tree (signature_of (automaton_of h (content w))) s ≡ ParsedTree.Refused r → (watch_of w s budget before).answer ≡ Watched.Refused r
+tree-refusal : (w s : List ℕ) (budget : ℕ) (before : List ℕ) (h : Header) → parsed w ≡ Ok h → (r : Refusal)
+    → read_tree (signature_of (automaton_of h (content w))) s ≡ Err r → (watch_of w s budget before).answer ≡ Err r
 unfolding watch_by
 tree-refusal w s budget before h read r letter = ap (λ (x : Outcome). x.answer) (both_read w s budget before h read) ∙ rw letter
 
@@ -50,19 +46,22 @@ tree-refusal w s budget before h read r letter = ap (λ (x : Outcome). x.answer)
 pub record Read (w s : List ℕ) : Type 0 where
   pub header : Header
   pub nodes : ℕ
-  pub automaton-read : parsed w ≡ Parsed.Read header
-  pub tree-read-is : read_tree (signature_of (automaton_of header (content w))) s ≡ ParsedTree.Nodes nodes
+  pub automaton-read : parsed w ≡ Ok header
+  pub tree-read-is : read_tree (signature_of (automaton_of header (content w))) s ≡ Ok nodes
 
-pub both-were-read : (w s : List ℕ) (budget : ℕ) (before : List ℕ) → Unrefused (watch_of w s budget before) → Read w s
-both-were-read w s budget before free = by-file (parsed w) refl
+pub both-were-read : (w s : List ℕ) (budget : ℕ) (before : List ℕ) (x : Watched) → (watch_of w s budget before).answer ≡ Ok x → Read w s
+both-were-read w s budget before x e = by-file (parsed w) refl
   where
-    by-tree : (h : Header) → parsed w ≡ Parsed.Read h → (x : ParsedTree) → read_tree (signature_of (automaton_of h (content w))) s ≡ x → Read w s
-    by-tree h read (ParsedTree.Nodes k) letter = record { header = h; nodes = k; automaton-read = read; tree-read-is = letter }
-    by-tree h read (ParsedTree.Refused r) letter = absurd (free r (tree-refusal w s budget before h read r letter))
+    free : (r : Refusal) → (watch_of w s budget before).answer ≡ Err r → ⊥
+    free r f = let g : ◌≡◌ {A = Result Watched Refusal} (Ok x) (Err r) = sym e ∙ f in clash (cc)
 
-    by-file : (x : Parsed) → parsed w ≡ x → Read w s
-    by-file (Parsed.Read h) read = by-tree h read (read_tree (signature_of (automaton_of h (content w))) s) refl
-    by-file (Parsed.Refused r) read = absurd (free r (ap (λ (x : Outcome). x.answer) (sym (both-refused w s budget before r read))))
+    by-tree : (h : Header) → parsed w ≡ Ok h → (y : Result ℕ Refusal) → read_tree (signature_of (automaton_of h (content w))) s ≡ y → Read w s
+    by-tree h read (Ok k) letter = record { header = h; nodes = k; automaton-read = read; tree-read-is = letter }
+    by-tree h read (Err r) letter = absurd (free r (tree-refusal w s budget before h read r letter))
+
+    by-file : (y : Result Header Refusal) → parsed w ≡ y → Read w s
+    by-file (Ok h) read = by-tree h read (read_tree (signature_of (automaton_of h (content w))) s) refl
+    by-file (Err r) read = absurd (free r (ap (λ (o : Outcome). o.answer) (sym (both-refused w s budget before r read))))
 
 -- ---- the log
 
@@ -73,19 +72,22 @@ walk_steps A t =
     (λ left made i p j q e n m. refl) (λ made i p j q e n m. refl) (λ left made i p j q e n m later. omega (arith, later))
 
 walk-log : (c : Check) (A : Automaton) (t : Tree) (start budget : ℕ) (before : List ℕ)
-    → Unrefused (watch_if c (walk A t start budget) before)
-    → log_of (watch_if c (walk A t start budget) before) ≡ bytes_of (walk A t start budget).entries
-walk-log (Refused r) A t start budget before free = absurd (free r refl)
-walk-log Passed A t start budget before free =
+    → (x : Watched) → (watch_if c (walk A t start budget) before).answer ≡ Ok x
+    → log_of x (watch_if c (walk A t start budget) before).log ≡ bytes_of (walk A t start budget).entries
+walk-log (Err r) A t start budget before x e = clash (cc)
+walk-log (Ok _) A t start budget before x e =
+    let same : (walk A t start budget).answer ≡ x = cc in
     let es = (walk A t start budget).entries in
-    let n : steps_of (walk A t start budget).answer + 1 ≡ length es = omega (arith, walk_steps A t budget 0 0 start) in
+    let n : steps_of x + 1 ≡ length es = rw (sym same) (omega (arith, walk_steps A t budget 0 0 start)) in
     ap (λ (k : ℕ). take (3 * k) (log_after es before)) n ∙ log-front es before
 
-pub file-log : (w s : List ℕ) (budget : ℕ) (before : List ℕ) (h : Header) (k : ℕ) → parsed w ≡ Parsed.Read h → let A = automaton_of h (content w) in
-    read_tree (signature_of A) s ≡ ParsedTree.Nodes k → Unrefused (watch_of w s budget before)
-    → log_of (watch_of w s budget before) ≡ bytes_of (walk A (tree_of A.branches (nodes_of k (content s))) (lowest_of A.initial) budget).entries
+pub file-log : (w s : List ℕ) (budget : ℕ) (before : List ℕ) (h : Header) (k : ℕ) → parsed w ≡ Ok h → let A = automaton_of h (content w) in
+    read_tree (signature_of A) s ≡ Ok k → (x : Watched) → (watch_of w s budget before).answer ≡ Ok x
+    → log_of x (watch_of w s budget before).log ≡ bytes_of (walk A (tree_of A.branches (nodes_of k (content s))) (lowest_of A.initial) budget).entries
 unfolding watch_tree
-file-log w s budget before h k read letter free =
+file-log w s budget before h k read letter x answer =
     let e = nodes-read w s budget before h read k letter in
     let A = automaton_of h (content w) in
-    ap log_of e ∙ walk-log (watch_check (determined A) A budget (length before)) A _ (lowest_of A.initial) budget before (λ r f. free r (ap (λ (x : Outcome). x.answer) e ∙ f))
+    ap (λ (o : Outcome). log_of x o.log) e
+    ∙ walk-log (watch_check (determined A) A budget (length before)) A _ (lowest_of A.initial) budget before x
+    (sym (ap (λ (o : Outcome). o.answer) e) ∙ answer)

@@ -1,8 +1,7 @@
 -- Refusal 23 of two logs. The quotation is of document 02, W8.
 -- Interface: `logs_check`.
 use Rattle.std.specs.Prelude.{ℕ, ◌%◌, not, List, eqb, length}
-use Rattle.refusal.specs.Checks.{refuse_if, ◌and_then◌}
-use Rattle.refusal.specs.declared.Check.{Check}
+use Rattle.refusal.specs.Checks.{refuse_if, ◌and_then◌, Check}
 use Rattle.refusal.specs.declared.Fault.{Fault}
 
 -- "23 .. a log's length is no multiple of three, place 0 for the first log and 1 for the second, the first looked at first"

@@ -5,7 +5,7 @@ use Rattle.model.specs.Trees.{Tree, size}
 use Rattle.algorithms.specs.Automaton.{Automaton, Proper}
 use Rattle.transitions.specs.Compiled.{Compiled}
 use Rattle.links.specs.Tables.{Tables}
-use Rattle.steps.specs.declared.leads.Configuration.{Configuration}
+use Rattle.steps.specs.declared.Configuration.{Configuration}
 use Rattle.watch.specs.Walk.{Entry}
 use Rattle.logs.specs.Prefix.{entry}
 

@@ -1,6 +1,6 @@
 -- What W8 says of the part, of the numbers and of a refusal, in terms of runs. Definitions only; the quotations are of document 02, W8.
 -- Interface: `Traced`, `Lawful`, `Counts`, `Promise`.
-use Rattle.std.specs.Prelude.{ℕ, suc, ◌*◌, ◌%◌, ◌≤◌, ◌<◌, ◌≡◌, ◌↔◌, List, [], ◌∷◌, length, take}
+use Rattle.std.specs.Prelude.{ℕ, suc, ◌*◌, ◌%◌, ◌≤◌, ◌<◌, ◌≡◌, ◌↔◌, List, [], ◌∷◌, length, take, Result, Ok, Err}
 use Rattle.model.specs.declared.Place.TheVariants.{Root}
 use Rattle.model.specs.Trees.{Tree}
 use Rattle.model.specs.Runs.{Position, Config, Step}
@@ -9,12 +9,10 @@ use Rattle.blocks.specs.Blocks.{content}
 use Rattle.refusal.specs.declared.Refusal.{Refusal}
 use Rattle.automaton.specs.File.{parsed}
 use Rattle.automaton.specs.declared.Header.{Header}
-use Rattle.automaton.specs.declared.file.Parsed.{Parsed}
 use Rattle.transitions.specs.Transitions.{automaton_of}
 use Rattle.nodes.specs.Preorder.{Writes}
 use Rattle.links.specs.Numbers.{Numbered}
 use Rattle.tree.specs.File.{nodes_of, read_tree}
-use Rattle.tree.specs.declared.file.ParsedTree.{ParsedTree}
 use Rattle.membership.specs.Judged.{signature_of}
 use Rattle.watch.specs.Walk.{Entry}
 use Rattle.agreement.specs.Longest.{Longest}
@@ -44,19 +42,19 @@ module _ (A : Automaton) (t : Tree) where
 -- of an automaton's file w, a tree's file s, the logs a and b, the part handed back and the numbers told
 pub record Promise (w s a b part told : List ℕ) : Type 0 where
   -- the numbers are those of a refusal or of two counts
-  pub answer : Compared
+  pub answer : Result Compared Refusal
   pub told_is : told ≡ told_of answer
   -- which of the two the first number tells: no refusal has the number 0
-  pub numbered : (r : Refusal) → answer ≡ Compared.Refused r → 0 < r.number
+  pub numbered : (r : Refusal) → answer ≡ Err r → 0 < r.number
   -- "A refusal comes with an empty part and both numbers 0" (`told_of` has the numbers) ..
-  pub refused : (r : Refusal) → answer ≡ Compared.Refused r → part ≡ []
+  pub refused : (r : Refusal) → answer ≡ Err r → part ≡ []
   -- .. and anything else with "the longest opening stretch of whole entries in which the two agree, as that part of the first log itself"
-  pub agreeing : (m n : ℕ) → answer ≡ Compared.Counted m n → (k : ℕ) × (part ≡ take (3 * k) a) × Longest a b k
+  pub agreeing : (c : Compared) → answer ≡ Ok c → (k : ℕ) × (part ≡ take (3 * k) a) × Longest a b k
   -- both files were read, and the list of k nodes writes the tree t: each count is right ..
-  pub counts : (h : Header) (k : ℕ) (t : Tree) → parsed w ≡ Parsed.Read h → let A = automaton_of h (content w) in
-      read_tree (signature_of A) s ≡ ParsedTree.Nodes k → Writes (signature_of A) (nodes_of k (content s)) t
-      → (m n : ℕ) → answer ≡ Compared.Counted m n → Counts A t (entries_of a) m × Counts A t (entries_of b) n
+  pub counts : (h : Header) (k : ℕ) (t : Tree) → parsed w ≡ Ok h → let A = automaton_of h (content w) in
+      read_tree (signature_of A) s ≡ Ok k → Writes (signature_of A) (nodes_of k (content s)) t
+      → (c : Compared) → answer ≡ Ok c → Counts A t (entries_of a) c.first × Counts A t (entries_of b) c.second
   -- .. and there are counts where both logs are whole entries, for every automaton: "The walker need not be single here"
-  pub counted : (h : Header) (k : ℕ) → parsed w ≡ Parsed.Read h → let A = automaton_of h (content w) in
-      read_tree (signature_of A) s ≡ ParsedTree.Nodes k → length a % 3 ≡ 0 → length b % 3 ≡ 0
-      → (m : ℕ) × (n : ℕ) × (answer ≡ Compared.Counted m n)
+  pub counted : (h : Header) (k : ℕ) → parsed w ≡ Ok h → let A = automaton_of h (content w) in
+      read_tree (signature_of A) s ≡ Ok k → length a % 3 ≡ 0 → length b % 3 ≡ 0
+      → (c : Compared) × (answer ≡ Ok c)

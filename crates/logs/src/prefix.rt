@@ -4,7 +4,8 @@ ghost use Rattle.logs.specs.Prefix.{entries_of, begins, run_prefix};
 ghost use Rattle.logs.specs.Counting.{entry_at, entry_of, Countable};
 
 use model::State;
-use steps::leads::{Configuration, leads};
+use steps::Configuration;
+use steps::leads::leads;
 use transitions::TransitionTable;
 
 // Entry k of a log: the node, low byte first, then the state.
@@ -26,10 +27,7 @@ fn entry_at(log: &[u8], k: usize) -> Configuration
 fn is_start(initial: u32, entry: Configuration) -> bool
     ensures { result ≡ begins initial (entry_of entry) }
 {
-    if entry.node != 0 {
-        return false;
-    }
-    relation::set::contains(initial, entry.state.0)
+    entry.node == 0 && relation::set::contains(initial, entry.state.0)
 }
 
 // How many entries from the start on are a run: the root in a start state, then each reached from the one before by a step.
@@ -53,14 +51,12 @@ pub fn run_prefix(
     if !is_start(initial, last) {
         return 0;
     }
-    let mut k: usize = 1;
-    while k < n {
+    for k in 1..n {
         let next = entry_at(log, k);
         if !leads(nodes, table, parents, rights, last, next) {
             return k;
         }
         last = next;
-        k += 1;
     }
-    k
+    n
 }

@@ -4,12 +4,9 @@
 // tools/make_logs_cases.py makes them.
 #![tactic(auto)]
 
-ghost use Rattle.std.specs.Prelude.{◌+◌, ◌<◌, ◌≤◌};
+ghost use Rattle.std.specs.Prelude.{◌+◌, ◌≤◌};
 
-fn number(label: &[u8], n: u64) {
-    io::write_all(1, label);
-    io::print_decimal(1, n);
-}
+use telling::{mix, number, read_below, read_front};
 
 // The refusal, where there is one.
 fn print_refusal(told: &[usize; 5]) {
@@ -21,21 +18,6 @@ fn print_refusal(told: &[usize; 5]) {
     number(b" place=", told[2] as u64);
 }
 
-fn mixed(sum: u64, b: u8) -> u64
-    ensures { result < 1000003 }
-{
-    ((sum % 1000003) * 257 + (b as u64)) % 1000003
-}
-
-// A number that depends on each byte and its place.
-fn mix(bytes: &[u8]) -> u64 {
-    let mut sum = 1u64;
-    for i in 0..bytes.len() {
-        sum = mixed(sum, bytes[i]);
-    }
-    sum
-}
-
 fn print_compared(automaton: &[u8], tree: &[u8], first: &[u8], second: &[u8]) {
     let mut told = [9usize; 5];
     let part = logs::compare(automaton, tree, first, second, &mut told);
@@ -44,22 +26,6 @@ fn print_compared(automaton: &[u8], tree: &[u8], first: &[u8], second: &[u8]) {
     number(b" mix=", mix(part));
     number(b" first=", told[3] as u64);
     number(b" second=", told[4] as u64);
-}
-
-// Fills the first n bytes of a buffer from the input; false where either is shorter.
-fn read_front(buffer: &mut [u8], n: usize) -> bool {
-    if buffer.len() < n {
-        return false;
-    }
-    io::read_full(0, &mut buffer[..n]) == n
-}
-
-// Reads so many bytes into the buffer, unless they are there; false where the input ends before they do.
-fn read_part(buffer: &mut [u8], length: usize) -> bool {
-    if length < 2147483648 {
-        return read_front(buffer, length);
-    }
-    true
 }
 
 fn length_at(head: &[u8; 17], at: usize) -> usize
@@ -104,16 +70,16 @@ fn one_case(automaton: &mut [u8], tree: &mut [u8], first: &mut [u8], second: &mu
     if !read_front(&mut label, n) {
         return false;
     }
-    if !read_part(automaton, length_at(&head, 1)) {
+    if !read_below(automaton, length_at(&head, 1), 2147483648) {
         return false;
     }
-    if !read_part(tree, length_at(&head, 5)) {
+    if !read_below(tree, length_at(&head, 5), 2147483648) {
         return false;
     }
-    if !read_part(first, length_at(&head, 9)) {
+    if !read_below(first, length_at(&head, 9), 2147483648) {
         return false;
     }
-    if !read_part(second, length_at(&head, 13)) {
+    if !read_below(second, length_at(&head, 13), 2147483648) {
         return false;
     }
     print_line(

@@ -1,5 +1,6 @@
 -- The laws of document 02's W6. The quotations are its sentences.
 -- Assumes nothing.
+use Rattle.std.proofs.Common.{Some, None, Ok}
 use Prim.Native.Nat.{ℕ, ◌+◌, ◌*◌}
 use native.Mathlib.Omega.{arith}
 use mathlib.Core.Path.{◌≡◌, sym, ap, ◌∙◌}
@@ -8,15 +9,12 @@ use mathlib.Core.List.{List}
 use lib.ListN.{length, take, drop}
 use lib.Seq.{take_at}
 use Rattle.blocks.specs.Blocks.{content}
-use Rattle.blocks.specs.declared.Found.{Found}
 use Rattle.model.specs.Trees.{Tree, size}
 use Rattle.automaton.specs.File.{parsed}
 use Rattle.automaton.specs.declared.Header.{Header}
-use Rattle.automaton.specs.declared.file.Parsed.{Parsed}
 use Rattle.transitions.specs.Transitions.{automaton_of}
 use Rattle.tree.specs.Payload.{tree_file}
 use Rattle.tree_writer.specs.ReadsBack.{ReadsBack}
-use Rattle.block_writer.specs.declared.Written.{Written}
 use Rattle.membership.specs.Judged.{signature_of}
 use Rattle.grammar.specs.Grammar.{Elements, Text, WrongAt, tree_of, elements_in, without_spaces}
 use Rattle.grammar.specs.Wrong.{wrong_place}
@@ -38,15 +36,15 @@ two-nodes-more r = omega (arith, size-elements r)
 
 -- "place the first byte at which no continuation could be right, or the length if it ends early": exactly there, by the grammar; and nothing is
 -- wrong exactly in a text
-pub wrong-exactly : (s : List ℕ) (place : ℕ) → (wrong_place s ≡ Found.At place) ↔ WrongAt s place
+pub wrong-exactly : (s : List ℕ) (place : ℕ) → (wrong_place s ≡ Some place) ↔ WrongAt s place
 wrong-exactly s place = ((λ e. rw e at (answered s)), text-wrong s place)
 
-pub right-exactly : (s : List ℕ) → (wrong_place s ≡ Found.Nothing) ↔ ((r : Elements) × Text s r)
+pub right-exactly : (s : List ℕ) → (wrong_place s ≡ None) ↔ ((r : Elements) × Text s r)
 right-exactly s = ((λ e. rw e at (answered s)), λ t. text-nothing s t.0 t.1)
 
-module _ (w : List ℕ) (h : Header) (read : parsed w ≡ Parsed.Read h) where
+module _ (w : List ℕ) (h : Header) (read : parsed w ≡ Ok h) where
   -- "a text is accepted exactly if it follows this grammar and none of the checks below applies"
-  pub accepted-exactly : (s out : List ℕ) → ((n : ℕ) × ((markup_of w s out).answer ≡ Written.Bytes n))
+  pub accepted-exactly : (s out : List ℕ) → ((n : ℕ) × ((markup_of w s out).answer ≡ Ok n))
       ↔ ((r : Elements) × Text s r × Unchecked (signature_of (automaton_of h (content w))) s r (length out))
   accepted-exactly s out = (
     (λ a. let t = (markup-right w s out).file h read a.0 a.1 in (t.elements, t.text, t.unchecked)),
@@ -54,7 +52,7 @@ module _ (w : List ℕ) (h : Header) (read : parsed w ≡ Parsed.Read h) where
   )
 
   -- reading the file back gives the tree of the text
-  pub reads_back : (s out : List ℕ) (n : ℕ) (r : Elements) → (markup_of w s out).answer ≡ Written.Bytes n → Text s r
+  pub reads_back : (s out : List ℕ) (n : ℕ) (r : Elements) → (markup_of w s out).answer ≡ Ok n → Text s r
       → ReadsBack (signature_of (automaton_of h (content w))) (tree_of r) × (take n (markup_of w s out).out ≡ tree_file (tree_of r))
   reads_back s out n r e t =
       let f = (markup-right w s out).file h read n e in
@@ -62,7 +60,7 @@ module _ (w : List ℕ) (h : Header) (read : parsed w ≡ Parsed.Read h) where
       (rw same at f.reads_back, ap (take n) f.bytes ∙ take_at (tree_file (tree_of f.elements)) (drop n out) n (sym f.long) ∙ ap tree_file same)
 
   -- "Accepted texts that differ only in spaces give the same file"
-  pub same-file : (s u out more : List ℕ) (n m : ℕ) → (markup_of w s out).answer ≡ Written.Bytes n → (markup_of w u more).answer ≡ Written.Bytes m
+  pub same-file : (s u out more : List ℕ) (n m : ℕ) → (markup_of w s out).answer ≡ Ok n → (markup_of w u more).answer ≡ Ok m
       → without_spaces s ≡ without_spaces u → (n ≡ m) × (take n (markup_of w s out).out ≡ take m (markup_of w u more).out)
   same-file s u out more n m e f k =
       let a = (markup-right w s out).file h read n e in

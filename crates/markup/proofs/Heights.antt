@@ -1,6 +1,7 @@
 -- Lines 10 to 12 of the nodes of a text, and refusal 19: where 19 passes, only 12 can refuse the nodes, since they write the text's tree; and lines
 -- 10 and 11 pass them only if 19 does, since each tag of no branch symbol leaves a branch too few.
 -- Assumes nothing.
+use Rattle.std.proofs.Common.{Ok}
 use Prim.Native.Nat.{ℕ, zero, suc, ◌+◌, ◌*◌, ◌<◌, ◌≤◌}
 use native.Mathlib.Omega.{arith}
 use mathlib.Core.Path.{◌≡◌, refl, sym, ap, ◌∙◌}
@@ -17,7 +18,6 @@ use Rattle.relation.specs.Sets.{member}
 use Rattle.model.specs.Trees.{size}
 use Rattle.model.specs.declared.Signature.{Signature}
 use Rattle.refusal.specs.Checks.{◌and_then◌, refuse_if, refuse_at}
-use Rattle.refusal.specs.declared.Check.TheVariants.{Passed}
 use Rattle.refusal.specs.declared.Fault.{Fault}
 use Rattle.refusal.proofs.Passed.{clash, both-passed, if-passed, at-passed}
 use Rattle.nodes.specs.Preorder.{preorder, Shaped, Below}
@@ -88,7 +88,7 @@ small m b (element n i a) z p h = (
       (small m b a z p (fine-right b (tags_of i) (closes ∷ tags_of a) h.1).1),
 )
 
-tag-passed : (sg : Signature) (s : List ℕ) → tag_check sg s ≡ Passed → (member sg.branches 0 ≡ false) × Fine sg.branches (tags_in s)
+tag-passed : (sg : Signature) (s : List ℕ) → tag_check sg s ≡ Ok tt → (member sg.branches 0 ≡ false) × Fine sg.branches (tags_in s)
 unfolding tag_check
 tag-passed sg s e =
     let b = sg.branches in
@@ -116,7 +116,7 @@ fine-none b (c ∷ x) s i e h k lo hi =
     go true e h later = rw (eqb-true i k e) at h
     go false e h later = let l = lt_of_le-ne lo (eqb-false i k e) in later (omega arith) hi
 
-tags-pass : (sg : Signature) (s : List ℕ) → member sg.branches 0 ≡ false → Fine sg.branches (tags_in s) → tag_check sg s ≡ Passed
+tags-pass : (sg : Signature) (s : List ℕ) → member sg.branches 0 ≡ false → Fine sg.branches (tags_in s) → tag_check sg s ≡ Ok tt
 unfolding tag_check
 tags-pass sg s z h =
     rw (z, find-nothing (bad_tag sg.branches s) 0 (length s) (λ k lo hi. fine-none sg.branches s s 0 refl h k lo (omega arith)))
@@ -137,15 +137,15 @@ branches-append b [] y = omega arith
 branches-append b (σ ∷ x) y = let e = branches-append b x y in omega arith
 
 -- a list that closes has one node more than twice its branches
-parts-count : (b parts i : ℕ) (s : List ℕ) → tree.parts_from b parts i s ≡ Passed → parts + 2 * branches b s ≡ length s
+parts-count : (b parts i : ℕ) (s : List ℕ) → tree.parts_from b parts i s ≡ Ok tt → parts + 2 * branches b s ≡ length s
 unfolding tree.parts_from branches
 parts-count b zero i [] e = omega arith
 parts-count b (suc n) i [] e = clash (cc)
 parts-count b zero i (σ ∷ s) e = clash (cc)
 parts-count b (suc n) i (σ ∷ s) e = go (member b σ) (λ k f. parts-count b k (i + 1) s f) e
   where
-    go : (t : Bool) → ((k : ℕ) → tree.parts_from b k (i + 1) s ≡ Passed → k + 2 * branches b s ≡ length s)
-        → tree.parts_from b (tree.opened t n) (i + 1) s ≡ Passed → suc n + 2 * (one_if t + branches b s) ≡ suc (length s)
+    go : (t : Bool) → ((k : ℕ) → tree.parts_from b k (i + 1) s ≡ Ok tt → k + 2 * branches b s ≡ length s)
+        → tree.parts_from b (tree.opened t n) (i + 1) s ≡ Ok tt → suc n + 2 * (one_if t + branches b s) ≡ suc (length s)
     go true h f = let k = h (suc (suc n)) f in omega arith
     go false h f = let k = h n f in omega arith
 
@@ -195,7 +195,7 @@ counted b (element n i a) z =
 
 module _ (sg : Signature) (s : List ℕ) (r : Elements) (w : Writes s r) (z : member sg.branches 0 ≡ false) where
   -- lines 10 and 11 pass the nodes only if 19 passes the text
-  pub passed-tags : tree.nodes_check sg (nodes_in s) ≡ Passed → tag_check sg s ≡ Passed
+  pub passed-tags : tree.nodes_check sg (nodes_in s) ≡ Ok tt → tag_check sg s ≡ Ok tt
   unfolding tree.nodes_check tree.shape_check
   passed-tags e =
       let b = sg.branches in
@@ -207,7 +207,7 @@ module _ (sg : Signature) (s : List ℕ) (r : Elements) (w : Writes s r) (z : me
       let fine = (counted b r z).1 (omega (arith, count, long)) in
       tags-pass sg s z (rw (text-tags w) fine)
 
-  module _ (e : tag_check sg s ≡ Passed) where
+  module _ (e : tag_check sg s ≡ Ok tt) where
     tags-fine : Fine sg.branches (tags_of r)
     tags-fine = rw (text-tags w) at (tag-passed sg s e).1
 
@@ -228,7 +228,7 @@ module _ (sg : Signature) (s : List ℕ) (r : Elements) (w : Writes s r) (z : me
     only-height p =
         let b = sg.branches in
         let t = tree_of r in
-        let symbols : tree.symbols_check sg (nodes_in s) ≡ Passed = rw (text-nodes w) ((below sg (preorder t)).1 (small sg.symbols b r p.0 p.1 tags-fine)) in
-        let parts : tree.parts_from b 1 0 (preorder t) ≡ Passed = rw (← append-nil (preorder t)) (parts-tree b 0 0 t [] tree-shaped) in
-        let shape : tree.parts_from b 1 0 (nodes_in s) ≡ Passed = rw (text-nodes w) parts in
+        let symbols : tree.symbols_check sg (nodes_in s) ≡ Ok tt = rw (text-nodes w) ((below sg (preorder t)).1 (small sg.symbols b r p.0 p.1 tags-fine)) in
+        let parts : tree.parts_from b 1 0 (preorder t) ≡ Ok tt = rw (← append-nil (preorder t)) (parts-tree b 0 0 t [] tree-shaped) in
+        let shape : tree.parts_from b 1 0 (nodes_in s) ≡ Ok tt = rw (text-nodes w) parts in
         rw (symbols, shape, tree_is)

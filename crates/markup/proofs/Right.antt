@@ -1,5 +1,6 @@
 -- Document 02's promises of W6 hold of what is written.
 -- Assumes nothing.
+use Rattle.std.proofs.Common.{Result, Ok, Err}
 use Prim.Native.Nat.{ℕ, ◌≤◌}
 use native.Mathlib.Omega.{arith}
 use mathlib.Core.Path.{◌≡◌, refl, sym, ap, subst, ◌∙◌}
@@ -12,13 +13,11 @@ use Rattle.model.specs.Trees.{size, height}
 use Rattle.model.specs.declared.Signature.{Signature}
 use Rattle.refusal.specs.Checks.{refused, refuse_if, ◌and_then◌}
 use Rattle.refusal.specs.Numbers.{number_of}
-use Rattle.refusal.specs.declared.Check.TheVariants.{Passed}
 use Rattle.refusal.specs.declared.Fault.{Fault}
 use Rattle.refusal.specs.declared.Refusal.{Refusal}
 use Rattle.refusal.proofs.Passed.{both-passed, if-passed}
 use Rattle.automaton.specs.File.{parsed}
 use Rattle.automaton.specs.declared.Header.{Header}
-use Rattle.automaton.specs.declared.file.Parsed.{Parsed}
 use Rattle.transitions.specs.Transitions.{automaton_of}
 use Rattle.transitions.proofs.Meaning.{file-symbols}
 use Rattle.nodes.specs.Nodes.{height_check, nodes_check}
@@ -27,7 +26,6 @@ use Rattle.nodes.proofs.Laws.{low-next, writes}
 use Rattle.tree.specs.Payload.{tree_file}
 use Rattle.tree_writer.proofs.Reading.{reads_back}
 use Rattle.block_writer.specs.Written.{room_check, Filled, filled}
-use Rattle.block_writer.specs.declared.Written.{Written}
 use Rattle.block_writer.proofs.Answers.{room-passed, room-enough, after-bytes, after_kept}
 use Rattle.membership.specs.Judged.{signature_of}
 use Rattle.tags.specs.Tags.{nodes_in}
@@ -42,30 +40,30 @@ use Rattle.markup.proofs.Heights.{tree_is, only-height}
 -- ---- what 4 and 12 leave of a text's tree, and what they pass
 
 module _ (s : List ℕ) (r : Elements) (t : Text s r) where
-  tree-checked : tree_check s ≡ Passed → (size (tree_of r) ≤ 4096) × (height_check (tree_of r) ≡ Passed)
+  tree-checked : tree_check s ≡ Ok tt → (size (tree_of r) ≤ 4096) × (height_check (tree_of r) ≡ Ok tt)
   unfolding tree_check size_check
   tree-checked e =
       let both = both-passed (refuse_if (ltb 4096 (size (text_tree s))) Fault.Count 1 2) (height_check (text_tree s)) e in
       let few = ltb-false 4096 (size (text_tree s)) (if-passed _ Fault.Count 1 2 both.0) in
       (rw (text-tree t) at few, rw (text-tree t) at both.1)
 
-  tree-passes : size (tree_of r) ≤ 4096 → height_check (tree_of r) ≡ Passed → tree_check s ≡ Passed
+  tree-passes : size (tree_of r) ≤ 4096 → height_check (tree_of r) ≡ Ok tt → tree_check s ≡ Ok tt
   unfolding tree_check size_check
   tree-passes few low = rw (text-tree t, le-ltb 4096 (size (tree_of r)) few, low)
 
-  low-passes : height (tree_of r) ≤ 64 → height_check (tree_of r) ≡ Passed
+  low-passes : height (tree_of r) ≤ 64 → height_check (tree_of r) ≡ Ok tt
   unfolding height_check
   low-passes h = rw (low-next 65 0 (tree_of r) (omega arith))
 
   file-is : text_file s ≡ tree_file (tree_of r)
   file-is = ap tree_file (text-tree t)
 
-module _ (sg : Signature) (signed : Signed sg) (s : List ℕ) (r : Elements) (t : Text s r) (tags : tag_check sg s ≡ Passed) where
+module _ (sg : Signature) (signed : Signed sg) (s : List ℕ) (r : Elements) (t : Text s r) (tags : tag_check sg s ≡ Ok tt) where
   nodes_are : nodes_check sg (nodes_in s) ≡ height_check (tree_of r)
   nodes_are = only-height sg s r t.writes (leaf-zero sg s tags) tags signed
 
   -- 12 passes the tree exactly if it is low; then it is over the signature
-  tree-writes : height_check (tree_of r) ≡ Passed → Writes sg (preorder (tree_of r)) (tree_of r)
+  tree-writes : height_check (tree_of r) ≡ Ok tt → Writes sg (preorder (tree_of r)) (tree_of r)
   tree-writes e =
       let same = tree_is sg s r t.writes (leaf-zero sg s tags) tags in
       rw (same, text-nodes t.writes) at (writes sg (nodes_in s) (nodes_are ∙ e))
@@ -73,7 +71,7 @@ module _ (sg : Signature) (signed : Signed sg) (s : List ℕ) (r : Elements) (t 
 -- ---- an answer, back to its checks
 
 module _ (sg : Signature) (signed : Signed sg) (s out : List ℕ) where
-  file-written : (n : ℕ) → (markup_for sg s out).answer ≡ Written.Bytes n → TextWritten sg s out (markup_for sg s out).out n
+  file-written : (n : ℕ) → (markup_for sg s out).answer ≡ Ok n → TextWritten sg s out (markup_for sg s out).out n
   unfolding markup_for markup_check
   file-written n e =
       let a = after-bytes (markup_check sg s (length out)) (text_file s) out n e in
@@ -104,41 +102,41 @@ module _ (sg : Signature) (signed : Signed sg) (s out : List ℕ) where
       }
 
   -- a text to which no check applies is written
-  text-accepted : (r : Elements) → Text s r → Unchecked sg s r (length out) → (markup_for sg s out).answer ≡ Written.Bytes (length (tree_file (tree_of r)))
+  text-accepted : (r : Elements) → Text s r → Unchecked sg s r (length out) → (markup_for sg s out).answer ≡ Ok (length (tree_file (tree_of r)))
   unfolding markup_for markup_check
   text-accepted r t u =
       let f = file-is s r t in
-      let text : text_check s ≡ Passed = text-short s u.short ∙ rw (text-nothing s r t) in
+      let text : text_check s ≡ Ok tt = text-short s u.short ∙ rw (text-nothing s r t) in
       let tree = tree-passes s r t u.few (low-passes s r t u.low) in
-      let room : room_check (length (text_file s)) (length out) ≡ Passed = rw f (room-enough _ (length out) u.enough) in
-      rw (text, u.tags, tree, room) (ap (λ (x : List ℕ). Written.Bytes (length x)) f)
+      let room : room_check (length (text_file s)) (length out) ≡ Ok tt = rw f (room-enough _ (length out) u.enough) in
+      rw (text, u.tags, tree, room) (ap (λ (x : List ℕ). Ok (length x)) f)
 
   -- and one that 18 refuses is refused
   text-refused : (place : ℕ) → text_check s ≡ refused Fault.Text 2 place
-      → (markup_for sg s out).answer ≡ Written.Refused (record { number = number_of Fault.Text; file = 2; place = place })
+      → (markup_for sg s out).answer ≡ Err (record { number = number_of Fault.Text; file = 2; place = place })
   unfolding markup_for markup_check
   text-refused place e = rw e
 
 module _ (w s before : List ℕ) where
-  pub refused-is : (r : Refusal) → parsed w ≡ Parsed.Refused r → markup_of w s before ≡ filled (Written.Refused r) before
+  pub refused-is : (r : Refusal) → parsed w ≡ Err r → markup_of w s before ≡ filled (Err r) before
   unfolding markup_of
   refused-is r read = rw read
 
-  pub markup-is : (h : Header) → parsed w ≡ Parsed.Read h → markup_of w s before ≡ markup_for (signature_of (automaton_of h (content w))) s before
+  pub markup-is : (h : Header) → parsed w ≡ Ok h → markup_of w s before ≡ markup_for (signature_of (automaton_of h (content w))) s before
   unfolding markup_of
   markup-is h read = rw read
 
-  kept-promise : (q : Parsed) → parsed w ≡ q → (r : Refusal) → (markup_of w s before).answer ≡ Written.Refused r → (markup_of w s before).out ≡ before
+  kept-promise : (q : Result Header Refusal) → parsed w ≡ q → (r : Refusal) → (markup_of w s before).answer ≡ Err r → (markup_of w s before).out ≡ before
   unfolding markup_of markup_for
-  kept-promise (Parsed.Refused x) read r e = rw read
-  kept-promise (Parsed.Read h) read r e =
+  kept-promise (Err x) read r e = rw read
+  kept-promise (Ok h) read r e =
       rw read (after_kept (markup_check (signature_of (automaton_of h (content w))) s (length before)) (text_file s) before r (rw read at e))
 
-  module _ (h : Header) (read : parsed w ≡ Parsed.Read h) where
+  module _ (h : Header) (read : parsed w ≡ Ok h) where
     answer-is : (markup_of w s before).answer ≡ (markup_for (signature_of (automaton_of h (content w))) s before).answer
     answer-is = ap (λ (o : Filled). o.answer) (markup-is h read)
 
-    file-promise : (n : ℕ) → (markup_of w s before).answer ≡ Written.Bytes n
+    file-promise : (n : ℕ) → (markup_of w s before).answer ≡ Ok n
         → TextWritten (signature_of (automaton_of h (content w))) s before (markup_of w s before).out n
     file-promise n e =
         subst (λ (o : Filled). TextWritten (signature_of (automaton_of h (content w))) s before o.out n) (sym (markup-is h read))

@@ -5,8 +5,7 @@ use Rattle.blocks.specs.Search.{lowest}
 use Rattle.relation.specs.Sets.{member}
 use Rattle.model.specs.Trees.{Tree, size}
 use Rattle.model.specs.declared.Signature.{Signature}
-use Rattle.refusal.specs.Checks.{refuse_if, refuse_at, ◌and_then◌}
-use Rattle.refusal.specs.declared.Check.{Check}
+use Rattle.refusal.specs.Checks.{refuse_if, refuse_at, ◌and_then◌, Check}
 use Rattle.refusal.specs.declared.Fault.{Fault}
 use Rattle.nodes.specs.Nodes.{height_check}
 use Rattle.tags.specs.Tags.{tags_in, bad_tag}

@@ -1,15 +1,14 @@
 -- What is answered to an automaton's file, an element text and a lent output, and what is left in the output. The quotations are of document 02, W6.
 -- Interface: `text_file`, `markup_check`, `markup_for`, `markup_of`.
-use Rattle.std.specs.Prelude.{ℕ, List, length}
+use Rattle.std.specs.Prelude.{ℕ, List, length, Result, Ok, Err}
 use Rattle.model.specs.declared.Signature.{Signature}
-use Rattle.refusal.specs.Checks.{◌and_then◌}
-use Rattle.refusal.specs.declared.Check.{Check}
+use Rattle.refusal.specs.Checks.{◌and_then◌, Check}
 use Rattle.block_writer.specs.Written.{room_check, Filled, filled, filled_after}
-use Rattle.block_writer.specs.declared.Written.{Written}
 use Rattle.transitions.specs.Transitions.{by_automaton}
 use Rattle.membership.specs.Judged.{signature_of}
 use Rattle.tree.specs.Payload.{tree_file}
 use Rattle.markup.specs.Checks.{text_tree, text_check, tag_check, tree_check}
+use Rattle.refusal.specs.declared.Refusal.{Refusal}
 
 -- "the result is a letter file"
 abbrev pub text_file : List ℕ → List ℕ
@@ -25,9 +24,9 @@ markup_for sg s out = filled_after (markup_check sg s (length out)) (text_file s
 
 -- "18, after the walker's own": of an automaton's file w
 unfoldable pub markup_of : (w text out : List ℕ) → Filled
-markup_of w s out = by_automaton w (λ r. filled (Written.Refused r) out) (λ A. markup_for (signature_of A) s out)
+markup_of w s out = by_automaton w (λ r. filled (Err r) out) (λ A. markup_for (signature_of A) s out)
 
 -- the answer of a check that refuses
-abbrev pub refused_by : Check → Written
-refused_by (Check.Refused r) = Written.Refused r
-refused_by Check.Passed = Written.Bytes 0
+abbrev pub refused_by : Check → Result ℕ Refusal
+refused_by (Err r) = Err r
+refused_by (Ok tt) = Ok 0

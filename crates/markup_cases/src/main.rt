@@ -6,30 +6,18 @@
 // tools/make_markup_cases.py makes them.
 #![tactic(auto)]
 
-ghost use Rattle.std.specs.Prelude.{◌+◌, ◌<◌, ◌≤◌, length};
+ghost use Rattle.std.specs.Prelude.{◌≤◌, length};
 
-use block_writer::Written;
 use refusal::Refusal;
+use telling::{fill, mix, number, pair_at, read_front};
 
 // An answer: the number of a refusal, its file and its place; or 0, the number of nodes and the file's length. And a number for the lent bytes.
-#[derive(Clone, Copy)]
+#[derive(Clone, Copy, PartialEq)]
 struct Outcome {
     number: u64,
     file: u64,
     place: u64,
     mix: u64,
-}
-
-// The length of the automaton's file, which is kept for the next case.
-#[derive(Clone, Copy)]
-enum Next {
-    Kept(usize),
-    End,
-}
-
-fn number(label: &[u8], n: u64) {
-    io::write_all(1, label);
-    io::print_decimal(1, n);
 }
 
 fn print_outcome(outcome: Outcome) {
@@ -44,46 +32,6 @@ fn print_outcome(outcome: Outcome) {
     number(b" mix=", outcome.mix);
 }
 
-fn same(a: Outcome, b: Outcome) -> bool {
-    a.number == b.number && a.file == b.file && a.place == b.place && a.mix == b.mix
-}
-
-// Fills the first n bytes of a buffer from the input; false where either is shorter.
-fn read_front(buffer: &mut [u8], n: usize) -> bool {
-    if buffer.len() < n {
-        return false;
-    }
-    io::read_full(0, &mut buffer[..n]) == n
-}
-
-fn pair_at(bytes: &[u8], at: usize) -> usize
-    requires { at + 2 ≤ length bytes.now }
-{
-    blocks::half_at(bytes, at) as usize
-}
-
-// A pattern, by which a byte that is written, or moved, is seen.
-fn fill(bytes: &mut [u8]) {
-    for i in 0..bytes.len() {
-        bytes[i] = (i % 251) as u8;
-    }
-}
-
-fn mixed(sum: u64, b: u8) -> u64
-    ensures { result < 1000003 }
-{
-    ((sum % 1000003) * 257 + (b as u64)) % 1000003
-}
-
-// A number that depends on each byte and its place.
-fn mix(bytes: &[u8]) -> u64 {
-    let mut sum = 1u64;
-    for i in 0..bytes.len() {
-        sum = mixed(sum, bytes[i]);
-    }
-    sum
-}
-
 fn lesser(a: usize, b: usize) -> usize
     ensures { (result ≤ a) × (result ≤ b) }
 {
@@ -91,7 +39,7 @@ fn lesser(a: usize, b: usize) -> usize
 }
 
 // Writes the tree's file into the front of a buffer.
-fn write(file: &[u8], text: &[u8], buffer: &mut [u8], room: usize) -> Written {
+fn write(file: &[u8], text: &[u8], buffer: &mut [u8], room: usize) -> Result<usize, Refusal> {
     let n = lesser(room, buffer.len());
     markup::write(file, text, &mut buffer[..n])
 }
@@ -105,12 +53,12 @@ fn of_refusal(refusal: Refusal, mix: u64) -> Outcome {
     }
 }
 
-fn outcome_of(written: Written, buffer: &[u8], mix: u64) -> Outcome
+fn outcome_of(written: Result<usize, Refusal>, buffer: &[u8], mix: u64) -> Outcome
     requires { 4 ≤ length buffer.now }
 {
     match written {
-        Written::Refused(refusal) => of_refusal(refusal, mix),
-        Written::Bytes(n) => Outcome {
+        Err(refusal) => of_refusal(refusal, mix),
+        Ok(n) => Outcome {
             number: 0,
             file: pair_at(buffer, 2) as u64,
             place: n as u64,
@@ -140,7 +88,7 @@ fn print_each(file: &[u8], text: &mut [u8], at: usize, room: usize) {
     for value in 0..256u32 {
         text[at] = value as u8;
         let next = answer(file, text, room);
-        if !same(last, next) {
+        if next != last {
             number(b" from=", value as u64);
             print_outcome(next);
         }
@@ -214,15 +162,15 @@ fn read_text(text: &mut [u8], pieces: usize) -> usize
     end
 }
 
-// Reads the file into the buffer, unless it is the one of the case before; its length.
-fn read_file(file: &mut [u8], length: usize, kept: usize) -> Next {
+// Reads the file into the buffer, unless it is the one of the case before; its length, or nothing at the end of the input.
+fn read_file(file: &mut [u8], length: usize, kept: usize) -> Option<usize> {
     if length == 65535 {
-        return Next::Kept(kept);
+        return Some(kept);
     }
     if read_front(file, length) {
-        Next::Kept(length)
+        Some(length)
     } else {
-        Next::End
+        None
     }
 }
 
@@ -240,29 +188,28 @@ fn print_line(label: &[u8], head: &[u8; 8], file: &[u8]) {
     io::write_all(1, b"\n");
 }
 
-// Reads a case and writes its line. The buffer holds the file of the case before, of so many bytes.
-fn one_case(file: &mut [u8], kept: usize) -> Next {
+// Reads a case and writes its line; the length of its file, or nothing at the end of the input. The buffer holds the file of the case before, of
+// so many bytes.
+fn one_case(file: &mut [u8], kept: usize) -> Option<usize> {
     let mut head = [0u8; 8];
     let mut label = [0u8; 256];
     if !read_front(&mut head, 8) {
-        return Next::End;
+        return None;
     }
     let n = blocks::wide(head[0]) as usize;
     if !read_front(&mut label, n) {
-        return Next::End;
+        return None;
     }
-    let next = read_file(file, pair_at(&head, 1), kept);
-    if let Next::Kept(length) = next {
-        print_line(blocks::front(&label, n), &head, blocks::front(file, length));
-    }
-    next
+    let length = read_file(file, pair_at(&head, 1), kept)?;
+    print_line(blocks::front(&label, n), &head, blocks::front(file, length));
+    Some(length)
 }
 
 fn main() {
     let mut file = [0u8; 8192];
     let mut kept = 0;
     for _ in 0..10000usize {
-        if let Next::Kept(length) = one_case(&mut file, kept) {
+        if let Some(length) = one_case(&mut file, kept) {
             kept = length;
         } else {
             return;

@@ -1,8 +1,8 @@
 // The engine beside the definition, on one text: the answer, and every byte of an output that has a pattern before, also after the part that is lent.
 ghost use Rattle.std.specs.Prelude.{◌≤◌};
 
-use block_writer::Written;
 use parses::answer::Expected;
+use refusal::Refusal;
 use sampling::access::{byte, set_byte};
 
 // The pattern.
@@ -39,19 +39,19 @@ fn lower(a: usize, b: usize) -> usize
 }
 
 // Writes into the front of the output.
-fn write(file: &[u8], text: &[u8], out: &mut [u8], room: usize) -> Written {
+fn write(file: &[u8], text: &[u8], out: &mut [u8], room: usize) -> Result<usize, Refusal> {
     let n = lower(room, out.len());
     markup::write(file, text, &mut out[..n])
 }
 
-fn same_answer(answer: Written, e: Expected) -> bool {
+fn same_answer(answer: Result<usize, Refusal>, e: Expected) -> bool {
     match answer {
-        Written::Refused(refusal) => {
+        Err(refusal) => {
             refusal.number as usize == e.number
                 && refusal.file as usize == e.file
                 && refusal.place == e.place
         }
-        Written::Bytes(n) => e.number == 0 && n == e.length,
+        Ok(n) => e.number == 0 && n == e.length,
     }
 }
 

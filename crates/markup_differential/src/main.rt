@@ -9,7 +9,7 @@ mod kinds;
 use parses::answer::Expected;
 use parses::{answer, room};
 use sampling::access::number;
-use sampling::report::{count, labelled, text};
+use sampling::report::{count, row, text};
 use search::files;
 use texts::automata::File;
 use texts::{automata, damage, forest};
@@ -83,20 +83,11 @@ fn compare_all(counts: &mut [usize]) {
     }
 }
 
-// A line with ten counts.
-fn line(label: &[u8], counts: &[usize], from: usize) {
-    text(label);
-    for i in 0..10usize {
-        labelled(b" ", number(counts, from % 64 + i));
-    }
-    text(b"\n");
-}
-
 fn main() {
     let mut counts = [0usize; 48];
     compare_all(&mut counts);
     text(b"written; 18: too long, ends early, at a byte; 19: at 0, later; 4; 12; 13; 1 to 9\n");
-    line(b"right texts:", &counts, 0);
-    line(b"damaged texts:", &counts, 16);
-    line(b"differences:", &counts, 32);
+    row(b"right texts:", &counts, 0, 10);
+    row(b"damaged texts:", &counts, 16, 26);
+    row(b"differences:", &counts, 32, 42);
 }

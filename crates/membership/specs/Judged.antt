@@ -1,7 +1,7 @@
 -- What judging answers of an automaton's file and a tree's file: the first refusal, the automaton's file first, else whether the automaton
 -- accepts the tree.
 -- Interface: `signature_of`, `accepted_if`, `judged_by`, `judged`.
-use Rattle.std.specs.Prelude.{Bool, true, false, List, ℕ}
+use Rattle.std.specs.Prelude.{Bool, true, false, List, ℕ, Result, Ok, Err}
 use Rattle.model.specs.declared.Signature.{Signature}
 use Rattle.algorithms.specs.Automaton.{Automaton}
 use Rattle.algorithms.specs.Overloops.{accepts?}
@@ -9,8 +9,8 @@ use Rattle.blocks.specs.Blocks.{content}
 use Rattle.transitions.specs.Transitions.{by_automaton}
 use Rattle.tree.specs.File.{nodes_of, read_tree}
 use Rattle.nodes.specs.Nodes.{tree_of}
-use Rattle.tree.specs.declared.file.ParsedTree.{ParsedTree}
 use Rattle.membership.specs.declared.Answer.{Answer}
+use Rattle.refusal.specs.declared.Refusal.{Refusal}
 
 -- the symbols of an automaton, against which a tree is read
 abbrev pub signature_of : Automaton → Signature
@@ -21,14 +21,14 @@ accepted_if true = Answer.Accepted
 accepted_if false = Answer.Other
 
 -- of a tree's file s that was read
-abbrev pub answer_of : Automaton → ParsedTree → (s : List ℕ) → Answer
-answer_of A (ParsedTree.Nodes k) s = accepted_if (accepts? A (tree_of A.branches (nodes_of k (content s))))
-answer_of A (ParsedTree.Refused r) s = Answer.Refused r
+abbrev pub answer_of : Automaton → Result ℕ Refusal → (s : List ℕ) → Result Answer Refusal
+answer_of A (Ok k) s = Ok (accepted_if (accepts? A (tree_of A.branches (nodes_of k (content s)))))
+answer_of A (Err r) s = Err r
 
 -- of a tree's file s, by an automaton
-unfoldable pub judged_by : Automaton → (s : List ℕ) → Answer
+unfoldable pub judged_by : Automaton → (s : List ℕ) → Result Answer Refusal
 judged_by A s = answer_of A (read_tree (signature_of A) s) s
 
 -- of an automaton's file w and a tree's file s
-unfoldable pub judged : (w s : List ℕ) → Answer
-judged w s = by_automaton w Answer.Refused (λ A. judged_by A s)
+unfoldable pub judged : (w s : List ℕ) → Result Answer Refusal
+judged w s = by_automaton w Err (λ A. judged_by A s)

@@ -25,20 +25,18 @@ use overloops::{LeafTable, close_leaf, close_node, part_in};
 use refusal::Refusal;
 use relation::{Closed, Relation};
 use transitions::TransitionTable;
-use tree::file::ParsedTree;
 
-// What judging answers: accepted, judged and not accepted, or refused.
+// What judging answers of a tree that is not refused: accepted or not.
 #[derive(Clone, Copy)]
 pub enum Answer {
     Accepted,
     Other,
-    Refused(Refusal),
 }
 
 // An answer with the sum of growths over the nodes of the tree; 0 where it is refused.
 #[derive(Clone, Copy)]
 pub struct Judged {
-    pub answer: Answer,
+    pub answer: Result<Answer, Refusal>,
     pub growth: u32,
 }
 
@@ -213,21 +211,18 @@ pub fn judge_file(header: Header, table: &TransitionTable, file: &[u8]) -> Judge
         → (result.answer ≡ judged_by A file.now) × (result.growth ≡ growth_by A file.now) }
 {
     let mut nodes = [0u8; 4096];
-    let signature = Signature {
-        symbols: header.symbols,
-        branches: header.branches,
-    };
+    let signature = Signature::from(header);
     match tree::file::read_tree(file, signature, &mut nodes) {
-        ParsedTree::Refused(refusal) => {
+        Err(refusal) => {
             Judged {
-                answer: Answer::Refused(refusal),
+                answer: Err(refusal),
                 growth: 0,
             }
         }
-        ParsedTree::Nodes(k) => {
+        Ok(k) => {
             let weighed = weigh(&nodes[..k], header, table);
             Judged {
-                answer: answer_of(weighed.accepted),
+                answer: Ok(answer_of(weighed.accepted)),
                 growth: weighed.growth,
             }
         }

@@ -1,5 +1,6 @@
 -- A list passes lines 10 to 12 exactly where it writes a tree over the signature no higher than 64, and that tree is the one that is read.
 -- Assumes nothing.
+use Rattle.std.proofs.Common.{Ok}
 use Prim.Native.Nat.{ℕ, zero, suc, ◌+◌, ◌<◌}
 use native.Mathlib.Omega.{arith}
 use mathlib.Core.Path.{◌≡◌, refl, sym, ap, ◌∙◌}
@@ -14,7 +15,6 @@ use Rattle.relation.specs.Sets.{member}
 use Rattle.model.specs.Trees.{Tree, leaf, node, height, size}
 use Rattle.model.specs.declared.Signature.{Signature}
 use Rattle.refusal.specs.Checks.{◌and_then◌}
-use Rattle.refusal.specs.declared.Check.TheVariants.{Passed}
 use Rattle.refusal.specs.declared.Fault.{Fault}
 use Rattle.refusal.proofs.Passed.{clash, both-passed, at-passed}
 use Rattle.nodes.specs.Preorder.{preorder, Writes, Shaped, Below, Stands}
@@ -35,7 +35,7 @@ each_below m [] h i l = absurd (omega arith)
 each_below m (σ ∷ s) h zero l = h.0
 each_below m (σ ∷ s) h (suc i) l = each_below m s h.1 i (omega arith)
 
-pub below : (sg : Signature) (s : List ℕ) → (symbols_check sg s ≡ Passed) ↔ Below sg.symbols s
+pub below : (sg : Signature) (s : List ℕ) → (symbols_check sg s ≡ Ok tt) ↔ Below sg.symbols s
 unfolding symbols_check no_symbol
 below sg s = (
   (λ e.
@@ -60,7 +60,7 @@ unfolding preorder Shaped
 node-planted b σ h (more l hl (more {s = s} r hr p)) =
     rw (← append_assoc (preorder l) (preorder r) s) (more (node σ l r) (h, hl, hr) p)
 
-planted : (b n i : ℕ) (s : List ℕ) → parts_from b n i s ≡ Passed → Planted b n s
+planted : (b n i : ℕ) (s : List ℕ) → parts_from b n i s ≡ Ok tt → Planted b n s
 unfolding parts_from
 planted b zero i [] e = none
 planted b (suc n) i [] e = clash (cc)
@@ -90,14 +90,14 @@ tree-of b t s h e =
     ap (λ (x : List ℕ). first_tree (forest b x)) (e ∙ sym (append-nil (preorder t))) ∙ ap first_tree (forest-preorder b t [] h)
 
 -- a list that passes writes the tree that is read
-closed : (b : ℕ) (s : List ℕ) → shape_check b s ≡ Passed → (s ≡ preorder (tree_of b s)) × Shaped b (tree_of b s)
+closed : (b : ℕ) (s : List ℕ) → shape_check b s ≡ Ok tt → (s ≡ preorder (tree_of b s)) × Shaped b (tree_of b s)
 unfolding shape_check
 closed b s e =
     let o = one (planted b 1 0 s e) in
     rw (tree-of b o.0 s o.2 o.1) (o.1, o.2)
 
 -- and that tree stands at the first node
-pub root : (b : ℕ) (s : List ℕ) → shape_check b s ≡ Passed → Stands b s 0 (tree_of b s)
+pub root : (b : ℕ) (s : List ℕ) → shape_check b s ≡ Ok tt → Stands b s 0 (tree_of b s)
 root b s e =
     let h = closed b s e in
     stands b s 0 (tree_of b s) [] h.1 (h.0 ∙ sym (append-nil (preorder (tree_of b s))))
@@ -125,18 +125,18 @@ low-next (suc d) i (leaf σ) h = refl
 low-next (suc d) i (node σ l r) h =
     rw (low-next d (i + 1) l (omega arith), low-next d (i + 1 + size l) r (omega arith)) (ap Next (omega arith))
 
-deep-passed : (x : Depth) → refuse_deep x ≡ Passed → (n : ℕ) × (x ≡ Next n)
+deep-passed : (x : Depth) → refuse_deep x ≡ Ok tt → (n : ℕ) × (x ≡ Next n)
 deep-passed (Deep i) e = clash (cc)
 deep-passed (Next n) e = (n, refl)
 
 -- ---- lines 10 to 12
 
 pub record NodesPassed (sg : Signature) (s : List ℕ) : Type 0 where
-  pub symbols : symbols_check sg s ≡ Passed
-  pub shape : shape_check sg.branches s ≡ Passed
-  pub height : height_check (tree_of sg.branches s) ≡ Passed
+  pub symbols : symbols_check sg s ≡ Ok tt
+  pub shape : shape_check sg.branches s ≡ Ok tt
+  pub height : height_check (tree_of sg.branches s) ≡ Ok tt
 
-nodes-passed : (sg : Signature) (s : List ℕ) → nodes_check sg s ≡ Passed → NodesPassed sg s
+nodes-passed : (sg : Signature) (s : List ℕ) → nodes_check sg s ≡ Ok tt → NodesPassed sg s
 unfolding nodes_check
 nodes-passed sg s e =
     let b = sg.branches in
@@ -145,7 +145,7 @@ nodes-passed sg s e =
     record { symbols = first.0; shape = later.0; height = later.1 }
 
 -- a list that passes writes the tree that is read
-pub writes : (sg : Signature) (s : List ℕ) → nodes_check sg s ≡ Passed → Writes sg s (tree_of sg.branches s)
+pub writes : (sg : Signature) (s : List ℕ) → nodes_check sg s ≡ Ok tt → Writes sg s (tree_of sg.branches s)
 unfolding height_check
 writes sg s e =
     let passed = nodes-passed sg s e in
@@ -159,19 +159,19 @@ writes sg s e =
     }
 
 -- a list that writes a tree passes, and that tree is read
-passes : (sg : Signature) (s : List ℕ) (t : Tree) → Writes sg s t → (nodes_check sg s ≡ Passed) × (tree_of sg.branches s ≡ t)
+passes : (sg : Signature) (s : List ℕ) (t : Tree) → Writes sg s t → (nodes_check sg s ≡ Ok tt) × (tree_of sg.branches s ≡ t)
 unfolding nodes_check shape_check height_check parts_from
 passes sg s t h =
     let b = sg.branches in
     let parts = shaped-over sg t h.over in
     let same : tree_of b s ≡ t = tree-of b t s parts.0 h.text in
-    let symbols : symbols_check sg s ≡ Passed = (below sg s).1 (rw h.text parts.1) in
-    let shape : parts_from b 1 0 s ≡ Passed = rw (h.text, ← append-nil (preorder t)) (parts-tree b 0 0 t [] parts.0) in
+    let symbols : symbols_check sg s ≡ Ok tt = (below sg s).1 (rw h.text parts.1) in
+    let shape : parts_from b 1 0 s ≡ Ok tt = rw (h.text, ← append-nil (preorder t)) (parts-tree b 0 0 t [] parts.0) in
     (rw (symbols, shape, same, low-next 65 0 t (omega (arith, h.low))), same)
 
 -- a list passes and the tree t is read exactly where the list writes t
 pub nodes-pass : (sg : Signature) (s : List ℕ) (t : Tree) →
-    ((nodes_check sg s ≡ Passed) × (tree_of sg.branches s ≡ t)) ↔ Writes sg s t
+    ((nodes_check sg s ≡ Ok tt) × (tree_of sg.branches s ≡ t)) ↔ Writes sg s t
 nodes-pass sg s t = ((λ e. rw e.1 at (writes sg s e.0)), passes sg s t)
 
 -- so a list writes one tree at most
@@ -179,5 +179,5 @@ pub writes_one : (sg : Signature) (s : List ℕ) (t u : Tree) → Writes sg s t 
 writes_one sg s t u h k = sym (passes sg s t h).1 ∙ (passes sg s u k).1
 
 -- the tree that is read stands at the first node
-pub read-stands : (sg : Signature) (s : List ℕ) → nodes_check sg s ≡ Passed → Stands sg.branches s 0 (tree_of sg.branches s)
+pub read-stands : (sg : Signature) (s : List ℕ) → nodes_check sg s ≡ Ok tt → Stands sg.branches s 0 (tree_of sg.branches s)
 read-stands sg s e = root sg.branches s (nodes-passed sg s e).shape

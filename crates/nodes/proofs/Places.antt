@@ -1,5 +1,6 @@
 -- The places of lines 11 and 12 in the table's words: "first node over, or k", and "first node 65 steps below the root".
 -- Assumes nothing.
+use Rattle.std.proofs.Common.{Option, Some, Ok, Err}
 use Prim.Native.Nat.{ℕ, zero, suc, ◌+◌, ◌-◌, ◌≤◌, ◌<◌}
 use native.Mathlib.Omega.{arith}
 use mathlib.Core.Path.{◌≡◌, refl, sym, ap, ◌∙◌}
@@ -11,14 +12,10 @@ use lib.Seq.{drop-drop, drop_at}
 use lib.Dec.{eqb}
 use borrow.Author.Tests.{eq-eqb, ne_eqb}
 use Rattle.blocks.specs.Search.{lowest_from, lowest}
-use Rattle.blocks.specs.declared.Found.{Found}
-use Rattle.blocks.specs.declared.Found.TheVariants.{At}
 use Rattle.blocks.proofs.Laws.{lowest-passed, lowest-hit, lowest-none}
 use Rattle.relation.specs.Sets.{member}
 use Rattle.model.specs.Trees.{Tree, leaf, node, size}
-use Rattle.refusal.specs.Checks.{refused, refuse_at}
-use Rattle.refusal.specs.declared.Check.{Check}
-use Rattle.refusal.specs.declared.Check.TheVariants.{Passed, Refused}
+use Rattle.refusal.specs.Checks.{refused, refuse_at, Check}
 use Rattle.refusal.specs.declared.Fault.{Fault}
 use Rattle.refusal.proofs.Passed.{clash}
 use Rattle.nodes.specs.Preorder.{preorder, Shaped}
@@ -90,8 +87,8 @@ unfolding shape_check
 after-tree b s t rest h e = rw e (parts-tree b 0 0 t rest h ∙ ap (λ (i : ℕ). parts_from b 0 i rest) (omega arith))
 
 place_of : Check → ℕ
-place_of Passed = 0
-place_of (Refused r) = r.place
+place_of (Ok tt) = 0
+place_of (Err r) = r.place
 
 same_place : (i j : ℕ) → refused Fault.Shape 1 i ≡ refused Fault.Shape 1 j → i ≡ j
 unfolding place_of
@@ -153,8 +150,8 @@ module _ (ds : List ℕ) where
   is65 i = eqb (get_or ds i 0) 65
 
   -- the search for 65 among the numbers ds, after a walk over a part of them
-  resume : Depth → Found
-  resume (Deep i) = At i
+  resume : Depth → Option ℕ
+  resume (Deep i) = Some i
   resume (Next n) = lowest_from is65 n (length ds - n)
 
   -- the left part's walk stops the search, or leaves it where the right part's begins

@@ -1,5 +1,6 @@
 -- Line 12 in one pass over the node list, by the depths of the parts that are still to come, the next one first.
 -- Assumes nothing.
+use Rattle.std.proofs.Common.{Ok}
 use Prim.Native.Nat.{ℕ, zero, suc, ◌+◌, ◌-◌, ◌*◌, ◌/◌, ◌%◌, ◌≤◌, ◌<◌}
 use native.Mathlib.Omega.{arith}
 use native.Mathlib.Numerals.{add-one}
@@ -11,9 +12,7 @@ use lib.Dec.{eqb, ltb}
 use borrow.Author.Tests.{lt-ltb, le-ltb, ltb-true, ltb-false, eq-eqb, ne_eqb, eqb-true, eqb-false}
 use Rattle.relation.specs.Sets.{member}
 use Rattle.model.specs.Trees.{Tree, leaf, node, size}
-use Rattle.refusal.specs.Checks.{refused}
-use Rattle.refusal.specs.declared.Check.{Check}
-use Rattle.refusal.specs.declared.Check.TheVariants.{Passed}
+use Rattle.refusal.specs.Checks.{refused, Check}
 use Rattle.refusal.specs.declared.Fault.{Fault}
 use Rattle.model.specs.declared.Signature.{Signature}
 use Rattle.nodes.specs.declared.Path.{Path}
@@ -37,8 +36,8 @@ or_later false i later = later
 
 -- the rest of a list from node i on, where parts at these depths are still to come
 unfoldable pub depths_from : (branches : ℕ) → List ℕ → (i : ℕ) → List ℕ → Check
-depths_from b ds i [] = Passed
-depths_from b [] i (σ ∷ s) = Passed
+depths_from b ds i [] = Ok tt
+depths_from b [] i (σ ∷ s) = Ok tt
 depths_from b (d ∷ ds) i (σ ∷ s) = or_later (eqb d 65) i (depths_from b (coming (member b σ) d ds) (i + 1) s)
 
 -- a walk over the next part stops, or leaves what follows it
@@ -50,7 +49,7 @@ after_both : (x y : Depth) (later : Check) → after_walk x (after_walk y later)
 after_both (Deep i) y later = refl
 after_both (Next n) y later = refl
 
-after_last : (x : Depth) → after_walk x Passed ≡ refuse_deep x
+after_last : (x : Depth) → after_walk x (Ok tt) ≡ refuse_deep x
 after_last (Deep i) = refl
 after_last (Next n) = refl
 
@@ -81,7 +80,7 @@ walked b s (suc k) d i ds (node _ l r) e (node_at h m left right) =
     ∙ after_both (depth_of k (i + 1) l) (depth_of k (i + 1 + size l) r) _
     ∙ ap (λ (n : ℕ). after_walk (depth_of (suc k) i (node (get_or s i 0) l r)) (depths_from b ds n (drop n s))) over
 
-pub none_left : (b i : ℕ) (s : List ℕ) → depths_from b [] i s ≡ Passed
+pub none_left : (b i : ℕ) (s : List ℕ) → depths_from b [] i s ≡ Ok tt
 unfolding depths_from
 none_left b i [] = refl
 none_left b i (σ ∷ s) = refl

@@ -1,15 +1,14 @@
 -- What stands at a place of a node list, and the place after it.
 -- Interface: `node_at`, `place_after`.
-use Rattle.std.specs.Prelude.{ℕ, ◌+◌, Bool, true, false, List, length, get_or, ltb}
-use Rattle.nodes.specs.declared.reader.Here.{Here}
-use Rattle.nodes.specs.declared.reader.Here.TheVariants.{Node, End}
+use Rattle.std.specs.Prelude.{ℕ, ◌+◌, Bool, true, false, List, length, get_or, ltb, Option, Some, None}
+use Rattle.model.specs.declared.Symbol.{Symbol}
 
-abbrev pub pick_here : Bool → Here → Here → Here
+abbrev pub pick_here : Bool → Option Symbol → Option Symbol → Option Symbol
 pick_here true a b = a
 pick_here false a b = b
 
-unfoldable pub node_at : List ℕ → (at : ℕ) → Here
-node_at s at = pick_here (ltb at (length s)) (Node (record { 0 = get_or s at 0 })) End
+unfoldable pub node_at : List ℕ → (at : ℕ) → Option Symbol
+node_at s at = pick_here (ltb at (length s)) (Some (record { 0 = get_or s at 0 })) None
 
 abbrev pub pick_place : Bool → ℕ → ℕ → ℕ
 pick_place true a b = a

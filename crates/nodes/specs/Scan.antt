@@ -4,8 +4,7 @@
 use Rattle.std.specs.Prelude.{ℕ, zero, suc, ◌+◌, ◌-◌, ◌*◌, ◌/◌, ◌%◌, ◌^◌, ◌<◌, Bool, true, false, List, [], ◌∷◌, eqb, ltb, leb}
 use Rattle.relation.specs.Sets.{member}
 use Rattle.model.specs.declared.Signature.{Signature}
-use Rattle.refusal.specs.Checks.{refuse_if, ◌and_then◌}
-use Rattle.refusal.specs.declared.Check.{Check}
+use Rattle.refusal.specs.Checks.{refuse_if, ◌and_then◌, Check}
 use Rattle.refusal.specs.declared.Fault.{Fault}
 use Rattle.nodes.specs.Reader.{pick_place}
 use Rattle.nodes.specs.declared.Path.{Path}

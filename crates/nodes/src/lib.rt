@@ -7,10 +7,10 @@ ghost use Rattle.std.specs.Prelude.{◌≡◌, ◌+◌, ◌<◌, ◌≤◌, ◌^
 ghost use Rattle.nodes.specs.Nodes.{nodes_check};
 ghost use Rattle.nodes.specs.Scan.{nothing_read, first_after, parts_after, Fits, opened_by, path_after, scanned_of, scan_of, symbols_by, shape_by, height_by};
 
-use crate::reader::{Here, moved_on, read, reader_of};
+use crate::reader::{moved_on, read, reader_of};
 use algorithms::is_branch;
 use model::{Signature, Symbol};
-use refusal::{Check, Fault, refused};
+use refusal::{Fault, Refusal, refused};
 
 // Whether a symbol is none of the signature's.
 fn is_unknown(signature: Signature, symbol: Symbol) -> bool
@@ -41,6 +41,7 @@ struct Scan {
 }
 
 // Nothing was read yet: the tree itself is open.
+#[tactic(auto, unfolding(crate::specs::Scan::nothing_read))]
 fn unread() -> Scan
     ensures { result ≡ nothing_read }
 {
@@ -58,6 +59,7 @@ fn unread() -> Scan
 }
 
 // The first node of its kind after one more node, which is of that kind or not.
+#[tactic(auto, unfolding(crate::specs::Scan::first_after))]
 fn first_after(first: usize, nodes: usize, here: bool) -> usize
     requires { nodes + 1 < 2 ^ 64 }
     ensures { result ≡ first_after first nodes here }
@@ -76,6 +78,7 @@ fn opened(branch: bool) -> u32
 }
 
 // The parts that are open after a node: a branch closes one and opens two, a leaf closes one. A closed tree stays closed.
+#[tactic(auto, unfolding(crate::specs::Scan::parts_after))]
 fn parts_after(parts: usize, branch: bool) -> usize
     requires { parts + 1 < 2 ^ 64 }
     ensures { result ≡ parts_after parts branch }
@@ -119,6 +122,7 @@ fn path_after(path: Path, branch: bool) -> Path
 }
 
 // What is known after one more node.
+#[tactic(auto, unfolding(crate::specs::Scan::scanned_of))]
 fn scanned(scan: Scan, symbol: Symbol, signature: Signature) -> Scan
     requires { (scan.nodes + 1 < 2 ^ 64) × (scan.parts + 1 < 2 ^ 64) × Fits scan.path }
     ensures { result ≡ scanned_of signature scan symbol.0 }
@@ -142,29 +146,27 @@ fn scan_nodes(symbols: &[u8], signature: Signature) -> Scan
 {
     let mut reader = reader_of(symbols);
     let mut scan = unread();
-    loop {
-        match read(reader) {
-            Here::Node(symbol) => {
-                scan = scanned(scan, symbol, signature);
-                reader = moved_on(reader);
-            }
-            Here::End => return scan,
-        }
+    while let Some(symbol) = read(reader) {
+        scan = scanned(scan, symbol, signature);
+        reader = moved_on(reader);
     }
+    scan
 }
 
 // Line 10, of a list that was read.
-fn symbols_check(scan: Scan) -> Check
+#[tactic(auto, unfolding(crate::specs::Scan::symbols_by))]
+fn symbols_check(scan: Scan) -> Result<(), Refusal>
     ensures { result ≡ symbols_by scan }
 {
     if scan.unknown < scan.nodes {
         return refused(Fault::Symbol, 1, scan.unknown);
     }
-    Check::Passed
+    Ok(())
 }
 
 // Line 11, of a list that was read: the tree closes with the last node, and not before.
-fn shape_check(scan: Scan) -> Check
+#[tactic(auto, unfolding(crate::specs::Scan::shape_by))]
+fn shape_check(scan: Scan) -> Result<(), Refusal>
     ensures { result ≡ shape_by scan }
 {
     if scan.over < scan.nodes {
@@ -173,29 +175,26 @@ fn shape_check(scan: Scan) -> Check
     if 0 < scan.parts {
         return refused(Fault::Shape, 1, scan.nodes);
     }
-    Check::Passed
+    Ok(())
 }
 
 // Line 12, of a list that was read.
-fn height_check(scan: Scan) -> Check
+#[tactic(auto, unfolding(crate::specs::Scan::height_by))]
+fn height_check(scan: Scan) -> Result<(), Refusal>
     ensures { result ≡ height_by scan }
 {
     if scan.high < scan.nodes {
         return refused(Fault::Height, 1, scan.high);
     }
-    Check::Passed
+    Ok(())
 }
 
 // Lines 10 to 12.
-pub fn check(symbols: &[u8], signature: Signature) -> Check
+pub fn check(symbols: &[u8], signature: Signature) -> Result<(), Refusal>
     ensures { result ≡ nodes_check signature symbols.now }
 {
     let scan = scan_nodes(symbols, signature);
-    if let Check::Refused(refusal) = symbols_check(scan) {
-        return Check::Refused(refusal);
-    }
-    if let Check::Refused(refusal) = shape_check(scan) {
-        return Check::Refused(refusal);
-    }
+    symbols_check(scan)?;
+    shape_check(scan)?;
     height_check(scan)
 }

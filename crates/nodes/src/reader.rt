@@ -11,24 +11,19 @@ pub struct Reader<'a> {
     pub at: usize,
 }
 
-// What stands at a place of the list: a node, by its symbol; or the end.
-#[derive(Clone, Copy)]
-pub enum Here {
-    Node(Symbol),
-    End,
-}
-
-fn node_at(symbols: &[u8], at: usize) -> Here
+#[tactic(auto, unfolding(crate::specs::Reader::node_at))]
+fn node_at(symbols: &[u8], at: usize) -> Option<Symbol>
     ensures { result ≡ node_at symbols.now at }
 {
     if at < symbols.len() {
-        Here::Node(Symbol(symbols[at]))
+        Some(Symbol(symbols[at]))
     } else {
-        Here::End
+        None
     }
 }
 
 // The place after a place; the end has none after it, and stays.
+#[tactic(auto, unfolding(crate::specs::Reader::place_after))]
 fn place_after(symbols: &[u8], at: usize) -> usize
     ensures { result ≡ place_after symbols.now at }
 {
@@ -43,7 +38,7 @@ pub fn reader_of<'a>(symbols: &'a [u8]) -> Reader<'a>
 }
 
 // What stands where the reader is.
-pub fn read<'a>(reader: Reader<'a>) -> Here
+pub fn read<'a>(reader: Reader<'a>) -> Option<Symbol>
     ensures { result ≡ node_at reader.entry.symbols.now reader.entry.at }
 {
     node_at(reader.symbols, reader.at)
@@ -61,7 +56,7 @@ pub fn moved_on<'a>(reader: Reader<'a>) -> Reader<'a>
 }
 
 // The node at a place of a list, by a reader there.
-pub fn read_at(symbols: &[u8], at: usize) -> Here
+pub fn read_at(symbols: &[u8], at: usize) -> Option<Symbol>
     ensures { result ≡ node_at symbols.now at }
 {
     read(Reader { symbols, at })

@@ -3,15 +3,13 @@
 #![tactic(auto)]
 
 ghost use Rattle.std.specs.Prelude.{◌≡◌};
-ghost use Rattle.numbering.specs.Numbers.{refusal_told, answer_number, answer_told, growth_numbers, judgement_number, judgement_told, survey_number, survey_told, quick_number, quick_told, single_number, single_told, written_number, written_told, watch_number, watch_told, compared_number, compared_counts, compared_told, outcome_numbered, tally_numbers, check_number, check_told};
+ghost use Rattle.numbering.specs.Numbers.{refusal_told, answer_number, answer_told, growth_numbers, count_number, count_told, survey_number, survey_told, quick_number, quick_told, single_number, single_told, watch_number, watch_told, compared_number, compared_counts, compared_told, outcome_numbered, tally_numbers, check_number, check_told};
 
-use answers::Judgement;
-use block_writer::Written;
 use determinism::Singleness;
 use emptiness::{Quick, Survey};
 use logs::Compared;
 use membership::{Answer, Judged};
-use refusal::{Check, Refusal};
+use refusal::Refusal;
 use tally::{Outcome, Tally};
 use watch::Watched;
 
@@ -26,14 +24,14 @@ fn put_refusal(refusal: Refusal, told: &mut [usize; 3])
 }
 
 // 0 accepted, 1 other, 2 refused.
-pub fn put_answer(answer: Answer, told: &mut [usize; 3]) -> u32
+pub fn put_answer(answer: Result<Answer, Refusal>, told: &mut [usize; 3]) -> u32
     ensures { (result ≡ answer_number answer) × (told.new ≡ answer_told answer) }
 {
     *told = [0, 0, 0];
     match answer {
-        Answer::Accepted => 0,
-        Answer::Other => 1,
-        Answer::Refused(refusal) => {
+        Ok(Answer::Accepted) => 0,
+        Ok(Answer::Other) => 1,
+        Err(refusal) => {
             put_refusal(refusal, told);
             2
         }
@@ -49,16 +47,16 @@ pub fn put_judged(judged: Judged, growth: &mut [usize; 1], told: &mut [usize; 3]
     put_answer(answer, told)
 }
 
-// 0 judged (files), 1 refused.
-pub fn put_judgement(judgement: Judgement, told: &mut [usize; 3]) -> u32
-    ensures { (result ≡ judgement_number judgement) × (told.new ≡ judgement_told judgement) }
+// 0 with a count (files that were judged, bytes that were written), 1 refused.
+pub fn put_count(answer: Result<usize, Refusal>, told: &mut [usize; 3]) -> u32
+    ensures { (result ≡ count_number answer) × (told.new ≡ count_told answer) }
 {
-    match judgement {
-        Judgement::Files(files) => {
-            *told = [files, 0, 0];
+    match answer {
+        Ok(count) => {
+            *told = [count, 0, 0];
             0
         }
-        Judgement::Refused(refusal) => {
+        Err(refusal) => {
             put_refusal(refusal, told);
             1
         }
@@ -66,23 +64,23 @@ pub fn put_judgement(judgement: Judgement, told: &mut [usize; 3]) -> u32
 }
 
 // 0 found (height, rows), 1 open (height), 2 empty (height), 3 refused.
-pub fn put_survey(answer: Survey, told: &mut [usize; 3]) -> u32
+pub fn put_survey(answer: Result<Survey, Refusal>, told: &mut [usize; 3]) -> u32
     ensures { (result ≡ survey_number answer) × (told.new ≡ survey_told answer) }
 {
     match answer {
-        Survey::Found { height, rows } => {
+        Ok(Survey::Found { height, rows }) => {
             *told = [height, rows, 0];
             0
         }
-        Survey::Open(height) => {
+        Ok(Survey::Open(height)) => {
             *told = [height, 0, 0];
             1
         }
-        Survey::Empty(height) => {
+        Ok(Survey::Empty(height)) => {
             *told = [height, 0, 0];
             2
         }
-        Survey::Refused(refusal) => {
+        Err(refusal) => {
             put_refusal(refusal, told);
             3
         }
@@ -90,14 +88,14 @@ pub fn put_survey(answer: Survey, told: &mut [usize; 3]) -> u32
 }
 
 // 0 clear, 1 unsure, 2 refused.
-pub fn put_quick(answer: Quick, told: &mut [usize; 3]) -> u32
+pub fn put_quick(answer: Result<Quick, Refusal>, told: &mut [usize; 3]) -> u32
     ensures { (result ≡ quick_number answer) × (told.new ≡ quick_told answer) }
 {
     *told = [0, 0, 0];
     match answer {
-        Quick::Clear => 0,
-        Quick::Unsure => 1,
-        Quick::Refused(refusal) => {
+        Ok(Quick::Clear) => 0,
+        Ok(Quick::Unsure) => 1,
+        Err(refusal) => {
             put_refusal(refusal, told);
             2
         }
@@ -105,58 +103,42 @@ pub fn put_quick(answer: Quick, told: &mut [usize; 3]) -> u32
 }
 
 // 0 single, 1 not single, 2 refused.
-pub fn put_single(answer: Singleness, told: &mut [usize; 3]) -> u32
+pub fn put_single(answer: Result<Singleness, Refusal>, told: &mut [usize; 3]) -> u32
     ensures { (result ≡ single_number answer) × (told.new ≡ single_told answer) }
 {
     *told = [0, 0, 0];
     match answer {
-        Singleness::Single => 0,
-        Singleness::Multiple => 1,
-        Singleness::Refused(refusal) => {
+        Ok(Singleness::Single) => 0,
+        Ok(Singleness::Multiple) => 1,
+        Err(refusal) => {
             put_refusal(refusal, told);
             2
-        }
-    }
-}
-
-// 0 written (length), 1 refused.
-pub fn put_written(answer: Written, told: &mut [usize; 3]) -> u32
-    ensures { (result ≡ written_number answer) × (told.new ≡ written_told answer) }
-{
-    match answer {
-        Written::Bytes(length) => {
-            *told = [length, 0, 0];
-            0
-        }
-        Written::Refused(refusal) => {
-            put_refusal(refusal, told);
-            1
         }
     }
 }
 
 // 0 passed (steps), 1 stuck (steps), 2 circling (steps), 3 spent (steps), 4 refused.
-pub fn put_watched(answer: Watched, told: &mut [usize; 3]) -> u32
+pub fn put_watched(answer: Result<Watched, Refusal>, told: &mut [usize; 3]) -> u32
     ensures { (result ≡ watch_number answer) × (told.new ≡ watch_told answer) }
 {
     match answer {
-        Watched::Passed(steps) => {
+        Ok(Watched::Passed(steps)) => {
             *told = [steps, 0, 0];
             0
         }
-        Watched::Stuck(steps) => {
+        Ok(Watched::Stuck(steps)) => {
             *told = [steps, 0, 0];
             1
         }
-        Watched::Circling(steps) => {
+        Ok(Watched::Circling(steps)) => {
             *told = [steps, 0, 0];
             2
         }
-        Watched::Spent(steps) => {
+        Ok(Watched::Spent(steps)) => {
             *told = [steps, 0, 0];
             3
         }
-        Watched::Refused(refusal) => {
+        Err(refusal) => {
             put_refusal(refusal, told);
             4
         }
@@ -165,7 +147,7 @@ pub fn put_watched(answer: Watched, told: &mut [usize; 3]) -> u32
 
 // 0 compared, with the length of the part and the two counts; 1 refused, with none.
 pub fn put_compared(
-    compared: Compared,
+    compared: Result<Compared, Refusal>,
     part: usize,
     counts: &mut [usize; 3],
     told: &mut [usize; 3],
@@ -173,12 +155,12 @@ pub fn put_compared(
     ensures { (result ≡ compared_number compared) × (counts.new ≡ compared_counts compared part) × (told.new ≡ compared_told compared) }
 {
     match compared {
-        Compared::Counted(first, second) => {
-            *counts = [part, first, second];
+        Ok(both) => {
+            *counts = [part, both.first, both.second];
             *told = [0, 0, 0];
             0
         }
-        Compared::Refused(refusal) => {
+        Err(refusal) => {
             *counts = [0, 0, 0];
             put_refusal(refusal, told);
             1
@@ -187,13 +169,13 @@ pub fn put_compared(
 }
 
 // 0 counted, 1 refused.
-pub fn put_check(check: Check, told: &mut [usize; 3]) -> u32
+pub fn put_check(check: Result<(), Refusal>, told: &mut [usize; 3]) -> u32
     ensures { (result ≡ check_number check) × (told.new ≡ check_told check) }
 {
     *told = [0, 0, 0];
     match check {
-        Check::Passed => 0,
-        Check::Refused(refusal) => {
+        Ok(()) => 0,
+        Err(refusal) => {
             put_refusal(refusal, told);
             1
         }

@@ -1,5 +1,6 @@
 -- Laws of 24 rows in a table: read, and written; of a table of leaves that is filled symbol by symbol; and of what preparing leaves.
 -- Assumes nothing.
+use Rattle.std.proofs.Common.{Result, Ok}
 use Prim.Native.Nat.{ℕ, ◌+◌, ◌≤◌, ◌<◌}
 use mathlib.Core.Path.{◌≡◌, refl, sym, ap, ◌∙◌}
 use mathlib.Core.Logic.{◌⊎◌, inl, inr}
@@ -21,13 +22,13 @@ use Rattle.algorithms.proofs.OverloopLaws.{row-moves, leaf-as-node, leaf-grows-a
 use Rattle.blocks.specs.Blocks.{content}
 use Rattle.automaton.specs.File.{WithinLimits, parsed}
 use Rattle.automaton.specs.declared.Header.{Header}
-use Rattle.automaton.specs.declared.file.Parsed.{Parsed}
 use Rattle.transitions.specs.Transitions.{automaton_of}
 use Rattle.transitions.specs.Compiled.{cell_of, Compiled}
 use Rattle.transitions.proofs.Laws.{place-small, move-small}
 use Rattle.transitions.proofs.Meaning.{file-proper}
 use Rattle.overloops.specs.Ready.{Headed, Ready, PreparedAfter}
 use Rattle.overloops.specs.Tables.{side_number, leaf_cell, LeavesBelow, Leaves, PutFirst, Put}
+use Rattle.refusal.specs.declared.Refusal.{Refusal}
 
 -- ---- 24 rows from a place on
 
@@ -156,7 +157,7 @@ module _ (A : Automaton) (n : ℕ) (t t₁ t₂ : List ℕ) where
 -- ---- what preparing leaves, by the answer
 
 -- the automaton of a file that reads is that of its header and of the table compiled from it
-pub file-headed : (s : List ℕ) (h : Header) (t : List ℕ) → parsed s ≡ Parsed.Read h → Compiled (automaton_of h (content s)) t
+pub file-headed : (s : List ℕ) (h : Header) (t : List ℕ) → parsed s ≡ Ok h → Compiled (automaton_of h (content s)) t
     → Headed (automaton_of h (content s)) h t
 file-headed s h t e c =
     record {
@@ -167,7 +168,7 @@ file-headed s h t e c =
       accepting = refl;
     }
 
-pub prepared-ready : (r : Parsed) (h : Header) (s t l t' l' : List ℕ) → r ≡ Parsed.Read h → PreparedAfter r s t l t' l'
+pub prepared-ready : (r : Result Header Refusal) (h : Header) (s t l t' l' : List ℕ) → r ≡ Ok h → PreparedAfter r s t l t' l'
     → WithinLimits h × Ready (automaton_of h (content s)) h t' l'
 prepared-ready r h s t l t' l' e a = rw e at a
 

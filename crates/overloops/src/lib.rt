@@ -10,8 +10,9 @@ ghost use Rattle.automaton.specs.File.{parsed};
 ghost use Rattle.overloops.specs.Tables.{Tabled, side_number, leaf_cell, Leaves, Put};
 ghost use Rattle.overloops.specs.Ready.{PreparedAfter};
 
-use automaton::file::Parsed;
+use automaton::Header;
 use model::{Move, Place, Side, State, Symbol};
+use refusal::Refusal;
 use relation::{Closed, Relation};
 use transitions::TransitionTable;
 
@@ -287,16 +288,16 @@ fn fill_leaves(table: &TransitionTable, states: usize, leaves: &mut [u32])
 }
 
 // Reads an automaton's file and prepares its tables, of which that of the transitions begins as zeros. A refused file leaves both as they were.
-pub fn prepare(file: &[u8], table: &mut TransitionTable, leaves: &mut LeafTable) -> Parsed
+pub fn prepare(
+    file: &[u8],
+    table: &mut TransitionTable,
+    leaves: &mut LeafTable,
+) -> Result<Header, Refusal>
     requires { table.old ≡ replicate 9216 0 }
     ensures { (result ≡ parsed file.now)
         × PreparedAfter result file.now table.old leaves.old table.new leaves.new }
 {
-    match transitions::load(file, table) {
-        Parsed::Refused(refusal) => Parsed::Refused(refusal),
-        Parsed::Read(header) => {
-            fill_leaves(table, header.states as usize, leaves);
-            Parsed::Read(header)
-        }
-    }
+    let header = transitions::load(file, table)?;
+    fill_leaves(table, header.states as usize, leaves);
+    Ok(header)
 }

@@ -6,7 +6,7 @@ ghost use Rattle.std.specs.Prelude.{◌≤◌};
 
 use sampling::access::{divided, number};
 use sampling::random::{draw, seed, subset};
-use sampling::report::{count, labelled, text};
+use sampling::report::{count, differences, labelled, text};
 use tally::Tally;
 
 // Of all small tallies, the most that are judged.
@@ -172,6 +172,5 @@ fn main() {
     line(b"halves", &counts, 5);
     line(b"halves, one off", &counts, 10);
     line(b"any", &counts, 15);
-    labelled(b"differences ", number(&counts, 31));
-    text(b"\n");
+    differences(number(&counts, 31));
 }

@@ -1,17 +1,22 @@
 -- One turn of the search, the node that it takes, and what holds between two turns.
--- Interface: `Turned`, `Swept`, `Searched`.
-use Rattle.std.specs.Prelude.{ℕ, ◌≤◌, ◌<◌, ◌≡◌, ◌⊎◌, true, List, length, get_or}
+-- Interface: `Swept`, `Taken`, `Turned`, `Searched`.
+use Rattle.std.specs.Prelude.{ℕ, ◌≤◌, ◌<◌, ◌≡◌, ◌⊎◌, true, List, length, get_or, Option, Some, None}
 use Rattle.algorithms.specs.Automaton.{In}
+use Rattle.reachability.specs.declared.Popped.{Popped}
 use Rattle.transitions.specs.Compiled.{Next}
 use Rattle.steps.specs.Leads.{leads_in}
 use Rattle.reachability.specs.Reached.{Reached}
 use Rattle.reachability.specs.Growth.{weight}
 
--- a node with fresh states, or n where no node below n has one
-pub record Swept (F : List ℕ) (n node : ℕ) : Type 0 where
-  pub within : node ≤ n
-  pub some : node < n → 0 < get_or F node 0
-  pub none : node ≡ n → (i : ℕ) → i < n → get_or F i 0 ≡ 0
+-- a node below n with fresh states; none where no node below n has one
+abbrev pub Swept : (F : List ℕ) (n : ℕ) → Option ℕ → Type 0
+Swept F n (Some node) = (node < n) × (0 < get_or F node 0)
+Swept F n None = (i : ℕ) → i < n → get_or F i 0 ≡ 0
+
+-- the same with how many nodes are left on a stack of so many places
+abbrev pub Taken : (F : List ℕ) (n room : ℕ) → Option Popped → Type 0
+Taken F n room (Some popped) = (popped.height ≤ room) × Swept F n (Some popped.node)
+Taken F n room None = Swept F n None
 
 module _ (next : Next) (nodes parents rights : List ℕ) where
   -- the steps from the fresh states of a node are taken

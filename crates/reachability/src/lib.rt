@@ -11,7 +11,7 @@ ghost use Rattle.overloops.specs.Ready.{Headed};
 ghost use Rattle.passes.specs.Verdicts.{Tells};
 ghost use Rattle.reachability.specs.Reached.{Found};
 ghost use Rattle.reachability.specs.Growth.{Image, Spread, Here, Sent, Either};
-ghost use Rattle.reachability.specs.Searched.{Turned, Swept};
+ghost use Rattle.reachability.specs.Searched.{Turned, Swept, Taken};
 
 use automaton::Header;
 use linking::link_tree;
@@ -30,7 +30,7 @@ struct Successors {
     right: u32,
 }
 
-// A node with fresh states, or the number of nodes where there is none; and how many nodes are left on the stack.
+// A node with fresh states, and how many nodes are left on the stack.
 #[derive(Clone, Copy)]
 struct Popped {
     node: usize,
@@ -185,40 +185,32 @@ fn turn(
     add(nodes, node, next.stay, reached, fresh, waiting, height)
 }
 
-// The first node with fresh states, or the number of nodes where there is none.
-fn sweep(fresh: &[u32], nodes: usize) -> usize
+// The first node with fresh states.
+fn sweep(fresh: &[u32], nodes: usize) -> Option<usize>
     requires { nodes ≤ length fresh.now }
     ensures { Swept fresh.now nodes result }
 {
-    let mut node = 0;
-    while node < nodes {
+    for node in 0..nodes {
         if fresh[node] != 0 {
-            return node;
+            return Some(node);
         }
-        node += 1;
     }
-    nodes
+    None
 }
 
 // A node with fresh states, from the stack; where it has none, by a sweep.
-fn pop(fresh: &[u32], waiting: &[u16], nodes: usize, height: usize) -> Popped
+fn pop(fresh: &[u32], waiting: &[u16], nodes: usize, height: usize) -> Option<Popped>
     requires { (nodes ≤ length fresh.now) × (height ≤ length waiting.now) }
-    ensures { (result.height ≤ length waiting.now) × Swept fresh.now nodes result.node }
+    ensures { Taken fresh.now nodes (length waiting.now) result }
 {
-    let mut top = height;
-    while top != 0 {
-        top -= 1;
+    for top in (0..height).rev() {
         let node = waiting[top] as usize;
-        if node < nodes {
-            if fresh[node] != 0 {
-                return Popped { node, height: top };
-            }
+        if node < nodes && fresh[node] != 0 {
+            return Some(Popped { node, height: top });
         }
     }
-    Popped {
-        node: sweep(fresh, nodes),
-        height: 0,
-    }
+    let node = sweep(fresh, nodes)?;
+    Some(Popped { node, height: 0 })
 }
 
 // Searches from the root in the start states: whether it is reached in a final state.
@@ -242,17 +234,15 @@ fn search(
     reached[0] = header.initial;
     fresh[0] = header.initial;
     while reached[0] & header.accepting == 0 {
-        let popped = pop(fresh, waiting, symbols.len(), height);
-        let node = popped.node;
-        if node == symbols.len() {
+        let Some(popped) = pop(fresh, waiting, symbols.len(), height) else {
             return false;
-        }
+        };
         height = turn(
             symbols,
             table,
             parents,
             rights,
-            node,
+            popped.node,
             reached,
             fresh,
             waiting,
@@ -262,52 +252,20 @@ fn search(
     true
 }
 
-// The search on a tree of at most 512 nodes: a local array begins as zeros, and less is cleared.
-fn judge_small(symbols: &[u8], header: Header, table: &TransitionTable) -> Verdict
-    requires { (0 < length symbols.now) × (length symbols.now ≤ 512) × (header.symbols ≤ 32) }
+// The search on a tree of at most N nodes. A local array begins as zeros: of a small one less is cleared.
+fn judge_within<const N: usize>(symbols: &[u8], header: Header, table: &TransitionTable) -> Verdict
+    requires { (0 < length symbols.now) × (length symbols.now ≤ N) × (N ≤ 4096) × (header.symbols ≤ 32) }
     ensures { (A : Automaton) → Headed A header table.now → Tells A (signature_in header) symbols.now result }
 {
-    let mut parents = [0u16; 512];
-    let mut rights = [0u16; 512];
-    let signature = Signature {
-        symbols: header.symbols,
-        branches: header.branches,
-    };
+    let mut parents = [0u16; N];
+    let mut rights = [0u16; N];
+    let signature = Signature::from(header);
     if !link_tree(symbols, signature, &mut parents, &mut rights) {
         return Verdict::Unknown;
     }
-    let mut reached = [0u32; 512];
-    let mut fresh = [0u32; 512];
-    let mut waiting = [0u16; 512];
-    verdict_of(search(
-        symbols,
-        header,
-        table,
-        &parents,
-        &rights,
-        &mut reached,
-        &mut fresh,
-        &mut waiting,
-    ))
-}
-
-// The search on any tree of at most 4,096.
-fn judge_large(symbols: &[u8], header: Header, table: &TransitionTable) -> Verdict
-    requires { (0 < length symbols.now) × (length symbols.now ≤ 4096) × (header.symbols ≤ 32) }
-    ensures { (A : Automaton) → Headed A header table.now → Tells A (signature_in header) symbols.now result }
-{
-    let mut parents = [0u16; 4096];
-    let mut rights = [0u16; 4096];
-    let signature = Signature {
-        symbols: header.symbols,
-        branches: header.branches,
-    };
-    if !link_tree(symbols, signature, &mut parents, &mut rights) {
-        return Verdict::Unknown;
-    }
-    let mut reached = [0u32; 4096];
-    let mut fresh = [0u32; 4096];
-    let mut waiting = [0u16; 4096];
+    let mut reached = [0u32; N];
+    let mut fresh = [0u32; N];
+    let mut waiting = [0u16; N];
     verdict_of(search(
         symbols,
         header,
@@ -327,7 +285,7 @@ pub fn judge_nodes(symbols: &[u8], header: Header, table: &TransitionTable) -> V
     ensures { (A : Automaton) → Headed A header table.now → Tells A (signature_in header) symbols.now result }
 {
     if symbols.len() <= 512 {
-        return judge_small(symbols, header, table);
+        return judge_within::<512>(symbols, header, table);
     }
-    judge_large(symbols, header, table)
+    judge_within::<4096>(symbols, header, table)
 }

@@ -8,33 +8,13 @@ ghost use Rattle.blocks.specs.Search.{lowest};
 ghost use Rattle.tree.specs.File.{read_tree, nodes_after};
 ghost use Rattle.reading.specs.Reading.{place_or, count_told};
 
-use blocks::Found;
 use model::Signature;
-use tree::file::ParsedTree;
-
-fn place_or(found: Found, other: usize) -> usize
-    ensures { result ≡ place_or found other }
-{
-    match found {
-        Found::At(place) => place,
-        Found::Nothing => other,
-    }
-}
-
-fn count_told(parsed: ParsedTree) -> usize
-    ensures { result ≡ count_told parsed }
-{
-    match parsed {
-        ParsedTree::Nodes(k) => k,
-        ParsedTree::Refused(_) => 0,
-    }
-}
 
 // The lowest block whose check is wrong, or the number of blocks.
 pub fn reading_check(file: &[u8]) -> usize
     ensures { result ≡ place_or (lowest (check_wrong file.now) (length file.now / 512)) (length file.now / 512) }
 {
-    place_or(blocks::first_bad_block(file), file.len() / 512)
+    blocks::first_bad_block(file).unwrap_or(file.len() / 512)
 }
 
 // Reads a tree's file against so many symbols, of which these are branch symbols: the number of its nodes, whose symbols go to the front of
@@ -44,5 +24,5 @@ pub fn reading_tree(file: &[u8], symbols: u8, branches: u32, nodes: &mut [u8; 40
         × (nodes.new ≡ nodes_after (read_tree (record { symbols = symbols; branches = branches }) file.now) file.now nodes.old) }
 {
     let signature = Signature { symbols, branches };
-    count_told(tree::file::read_tree(file, signature, nodes))
+    tree::file::read_tree(file, signature, nodes).unwrap_or(0)
 }

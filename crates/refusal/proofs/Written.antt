@@ -1,5 +1,6 @@
 -- Lines 1, 2, 5 and 6 pass the file that is written of a payload, and what lines 3 and 4 read there is the payload's.
 -- Assumes nothing.
+use Rattle.std.proofs.Common.{Ok}
 use Prim.Native.Nat.{ℕ, ◌+◌, ◌*◌, ◌/◌, ◌%◌, ◌^◌, ◌<◌, ◌≤◌}
 use native.Mathlib.Decide.{dec_lt}
 use native.Mathlib.Omega.{arith}
@@ -14,7 +15,6 @@ use Rattle.blocks.specs.FileOf.{file_of}
 use Rattle.blocks.proofs.Laws.{find-nothing}
 use Rattle.blocks.proofs.Written.{file-length, file-content-at, file-content-length, checks-right}
 use Rattle.refusal.specs.Lines.{length_check, blocks_check, file_check, size_check, must_be_zero, not_zero, filler_check, blocks_needed}
-use Rattle.refusal.specs.declared.Check.TheVariants.{Passed}
 use Rattle.refusal.specs.declared.lines.Format.{Format}
 
 -- a payload that a file of the format can hold: some bytes, no more blocks than the format has, and 0 at each zero byte
@@ -24,12 +24,12 @@ pub record Payload (f : Format) (p : List ℕ) : Type 0 where
   pub zeros : (i : ℕ) → i < length p → f.zeros / 2 ^ i % 2 ≡ 1 → get_or p i 0 ≡ 0
 
 pub record WrittenPasses (f : Format) (p : List ℕ) : Type 0 where
-  pub file : file_check f (file_of p) ≡ Passed
-  pub size : size_check f (length p) (content (file_of p)) ≡ Passed
-  pub filler : filler_check f (length p) (content (file_of p)) ≡ Passed
+  pub file : file_check f (file_of p) ≡ Ok tt
+  pub size : size_check f (length p) (content (file_of p)) ≡ Ok tt
+  pub filler : filler_check f (length p) (content (file_of p)) ≡ Ok tt
 
 module _ (f : Format) (p : List ℕ) (h : Payload f p) where
-  file-passes : file_check f (file_of p) ≡ Passed
+  file-passes : file_check f (file_of p) ≡ Ok tt
   unfolding file_check length_check blocks_check
   file-passes =
       let n = length (file_of p) in
@@ -39,7 +39,7 @@ module _ (f : Format) (p : List ℕ) (h : Payload f p) where
       let small : n ≤ f.most = omega (arith, e, h.most) in
       rw (ne_eqb n 0 some, eq-eqb (n % 512) 0 whole, le-ltb f.most n small, checks-right p)
 
-  size-passes : size_check f (length p) (content (file_of p)) ≡ Passed
+  size-passes : size_check f (length p) (content (file_of p)) ≡ Ok tt
   unfolding size_check
   size-passes =
       let n = length (content (file_of p)) in
@@ -61,7 +61,7 @@ module _ (f : Format) (p : List ℕ) (h : Payload f p) where
       go (yes l) false e = rw (e, lt-leb (length p) i l)
       go (no l) t e = and_zero (must_be_zero f.zeros (length p) i) (get_or-eq_default p 0 (omega arith))
 
-  filler-passes : filler_check f (length p) (content (file_of p)) ≡ Passed
+  filler-passes : filler_check f (length p) (content (file_of p)) ≡ Ok tt
   unfolding filler_check
   filler-passes =
       rw (find-nothing (not_zero f.zeros (length p) (content (file_of p))) 0 (length (content (file_of p))) (λ i lo hi. byte-passes i))

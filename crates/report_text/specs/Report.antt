@@ -1,7 +1,7 @@
 -- The report on an automaton's file and trees' files (document 01, "Tally and report"), as a list of bytes: the lines of the crate `wording`, of what
 -- is told of the file and of the batch.
 -- Interface: `head_of`, `report_of`.
-use Rattle.std.specs.Prelude.{List, ◌++◌, ℕ}
+use Rattle.std.specs.Prelude.{List, ◌++◌, ℕ, Result, Ok}
 use Rattle.algorithms.specs.Saturate.{saturation_of}
 use Rattle.automaton.specs.File.{read_automaton}
 use Rattle.automaton.specs.declared.Header.{Header}
@@ -16,6 +16,7 @@ use Rattle.emptiness.specs.declared.Quick.{Quick}
 use Rattle.tally.specs.declared.Tally.{Tally}
 use Rattle.batch.specs.Batch.{nothing_counted, batch_of}
 use Rattle.wording.specs.ReportLines.{refused_line, head_text, tally_line}
+use Rattle.refusal.specs.declared.Refusal.{Refusal}
 
 -- ---- what is told of an automaton's file that reads with the header h and the joined contents p
 
@@ -25,11 +26,11 @@ single_told h p = single_if (single (spread_rules h p))
 abbrev pub quick_told : Header → (p : List ℕ) → Quick
 quick_told h p = checked_by (automaton_of h p)
 
-abbrev pub survey_told : Header → (p : List ℕ) → Survey
-survey_told h p = survey_of (saturation_of (automaton_of h p))
+abbrev pub survey_told : Header → (p : List ℕ) → Result Survey Refusal
+survey_told h p = Ok (survey_of (saturation_of (automaton_of h p)))
 
 unfoldable pub head_of : Header → (p : List ℕ) → List ℕ
-head_of h p = head_text h (single_told h p) (quick_told h p) (survey_told h p)
+head_of h p = head_text h (Ok (single_told h p)) (Ok (quick_told h p)) (survey_told h p)
 
 -- with a tally
 abbrev pub read_text : Header → (p : List ℕ) → Tally → List ℕ

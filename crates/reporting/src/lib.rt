@@ -5,8 +5,9 @@ ghost use Rattle.std.specs.Prelude.{◌≡◌, List, ℕ, ◌+◌, ◌-◌, ◌�
 ghost use Rattle.algorithms.specs.Automaton.{Automaton};
 ghost use Rattle.automaton.specs.File.{WithinLimits};
 ghost use Rattle.transitions.specs.Transitions.{automaton_of};
-ghost use Rattle.overloops.specs.Ready.{Headed, Ready};
-ghost use Rattle.class_tables.specs.Cache.{CachedIn};
+ghost use Rattle.overloops.specs.Ready.{Headed};
+ghost use Rattle.classes.specs.Prepared.{ReadyFor};
+ghost use Rattle.class_tables.specs.Cache.{Cached};
 ghost use Rattle.tally.specs.Tally.{total};
 ghost use Rattle.wording.specs.ReportLines.{refused_line, tally_line};
 ghost use Rattle.report_text.specs.Report.{head_of};
@@ -14,12 +15,11 @@ ghost use Rattle.reporting.specs.Trace.{Asked, Handed};
 ghost use Rattle.reporting.specs.Reported.{Tallied, Reported};
 
 use automaton::Header;
-use automaton::file::Parsed;
 use batch::count_rest;
 use batch::part::judge_part;
-use class_tables::{Cells, Counts, Hints, IndexMaps, Store};
+use class_tables::Cache;
+use classes::Prepared;
 use counting::count_all;
-use overloops::LeafTable;
 use refusal::Refusal;
 use tally::Tally;
 use transitions::TransitionTable;
@@ -43,12 +43,11 @@ fn move_front(buffer: &mut [u8], from: usize, to: usize) -> usize
     ensures { (result ≡ to - from) × (length buffer.new ≡ length buffer.old)
         × (take result buffer.new ≡ drop from (take to buffer.old)) }
 {
-    let mut i: usize = 0;
-    while i < to - from {
+    let count = to - from;
+    for i in 0..count {
         buffer[i] = buffer[from + i];
-        i += 1;
     }
-    i
+    count
 }
 
 // Whether a tally counts no further.
@@ -66,15 +65,10 @@ fn tally_pieces(
     input: Descriptor,
     buffer: &mut [u8],
     answers: &mut [usize],
-    counts: &mut Counts,
-    store: &mut Store,
-    maps: &mut IndexMaps,
-    cells: &mut Cells,
-    hints: &mut Hints,
+    cache: &mut Cache,
 ) -> Tally
     requires { WithinLimits header × (length buffer.old ≡ 65536) × (length answers.old ≡ 384) }
-    ensures { (A : Automaton) → Headed A header table.now
-        → CachedIn A counts.old store.old maps.old cells.old → Tallied input A result }
+    ensures { (A : Automaton) → Headed A header table.now → Cached A cache.old → Tallied input A result }
 {
     let mut tally = Tally {
         accepted: 0,
@@ -85,17 +79,7 @@ fn tally_pieces(
     loop {
         let got = read_part(input, buffer, held, 65536);
         let all = held + got;
-        let part = judge_part(
-            header,
-            table,
-            &buffer[..all],
-            answers,
-            counts,
-            store,
-            maps,
-            cells,
-            hints,
-        );
+        let part = judge_part(header, table, &buffer[..all], answers, cache);
         let numbers = 3 * part.files;
         tally = count_all(tally, &answers[..numbers]);
         if !part.more {
@@ -118,24 +102,8 @@ fn tally_files(header: Header, table: &TransitionTable, input: Descriptor) -> Ta
 {
     let mut buffer = io::large_buffer();
     let mut answers = [0usize; 384];
-    let mut counts = [1u32; 6];
-    counts[4] = 2048;
-    let mut store = [0u32; 49152];
-    let mut maps = [0u16; 66560];
-    let mut cells = [0u64; 16384];
-    let mut hints = [0u16; 6144];
-    tally_pieces(
-        header,
-        table,
-        input,
-        &mut buffer,
-        &mut answers,
-        &mut counts,
-        &mut store,
-        &mut maps,
-        &mut cells,
-        &mut hints,
-    )
+    let mut cache = Cache::fresh();
+    tally_pieces(header, table, input, &mut buffer, &mut answers, &mut cache)
 }
 
 // Hands a text to standard output; whether all of it was taken.
@@ -153,12 +121,12 @@ fn print_refused(refusal: Refusal) -> bool
     print(&out[..end])
 }
 
-fn print_head(header: Header, table: &TransitionTable, leaves: &LeafTable) -> bool
-    requires { WithinLimits header }
-    ensures { (p : List ℕ) → Ready (automaton_of header p) header table.now leaves.now → Handed (head_of header p) result }
+fn print_head(prepared: Prepared) -> bool
+    requires { WithinLimits prepared.header }
+    ensures { (p : List ℕ) → ReadyFor (automaton_of prepared.entry.header p) prepared.entry → Handed (head_of prepared.entry.header p) result }
 {
     let mut out = [0u8; 232];
-    let end = report_text::put_read(&mut out, header, table, leaves);
+    let end = report_text::put_read(&mut out, prepared);
     print(&out[..end])
 }
 
@@ -176,9 +144,14 @@ fn report_file(file: &[u8], input: Descriptor) -> bool
     let mut table = [0u32; 9216];
     let mut leaves = [0u32; 1536];
     match overloops::prepare(file, &mut table, &mut leaves) {
-        Parsed::Refused(refusal) => print_refused(refusal),
-        Parsed::Read(header) => {
-            let first = print_head(header, &table, &leaves);
+        Err(refusal) => print_refused(refusal),
+        Ok(header) => {
+            let prepared = Prepared {
+                header,
+                table: &table,
+                leaves: &leaves,
+            };
+            let first = print_head(prepared);
             let tally = tally_files(header, &table, input);
             let last = print_tally(tally);
             first & last

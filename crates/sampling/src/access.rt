@@ -1,5 +1,5 @@
 // Total access to arrays: outside an array a read gives 0 and a write changes nothing. Sets of at most 32 numbers are words, bit i for number i.
-ghost use Rattle.std.specs.Prelude.{◌≤◌};
+ghost use Rattle.std.specs.Prelude.{◌≡◌, ◌≤◌, length, take, true};
 
 fn wide(b: u8) -> usize
     ensures { result ≤ 255 }
@@ -60,4 +60,11 @@ pub fn modulo(a: usize, n: usize) -> usize
 // The quotient, 0 where there is nothing to divide by.
 pub fn divided(a: usize, n: usize) -> usize {
     if n == 0 { 0 } else { a / n }
+}
+
+// Whether two arrays both have n bytes or more, and the same first n.
+pub fn same_bytes(a: &[u8], b: &[u8], n: usize) -> bool
+    ensures { result ≡ true → (n ≤ length a.now) × (n ≤ length b.now) × (take n a.now ≡ take n b.now) }
+{
+    n <= a.len() && n <= b.len() && a[..n] == b[..n]
 }

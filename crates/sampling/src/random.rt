@@ -43,3 +43,12 @@ pub fn seed(k: usize) -> u64 {
     }
     random
 }
+
+// A number below 2^32, made of another alone: it hangs on no draw before it.
+pub fn scattered(n: usize) -> usize
+    ensures { result ≤ 4294967295 }
+{
+    let a = n % 268435456 * 2654435761;
+    let b = (a ^ (a >> 29)) % 4294967296 * 2246822507;
+    (b ^ (b >> 31)) / 65536 % 4294967296
+}

@@ -5,17 +5,16 @@ ghost use Rattle.std.specs.Prelude.{◌≡◌};
 ghost use Rattle.algorithms.specs.Automaton.{Automaton};
 ghost use Rattle.algorithms.specs.Saturate.{saturation_of};
 ghost use Rattle.automaton.specs.File.{WithinLimits};
-ghost use Rattle.overloops.specs.Ready.{Ready};
+ghost use Rattle.classes.specs.Prepared.{ReadyFor};
 ghost use Rattle.saturation.specs.Ends.{verdict_of, FoundFew};
 
-use automaton::Header;
 use candidates::{Tried, round};
+use classes::Prepared;
 use interchange::{Doubles, Entered, fill_entered, mark};
-use overloops::LeafTable;
 use representatives::{Origin, RowTable};
-use transitions::TransitionTable;
 
-// How the rounds end: Found at a height after so many rows, with the accepted tree; Open or Empty at a height.
+// How the rounds end: Found at a height after so many rows, with the accepted tree; Open or Empty at a height. All
+// three are outcomes of their own, none a refusal or an absence.
 #[derive(Clone, Copy)]
 pub enum Saturated {
     Found {
@@ -29,25 +28,27 @@ pub enum Saturated {
 
 // The rounds, from no row on. As a round begins, the rows of the last are marked where they are doubles. Each but the last adds a row, so that
 // they end.
-pub fn saturate(
-    table: &TransitionTable,
-    leaves: &LeafTable,
-    header: Header,
-    rows: &mut RowTable,
-) -> Saturated
-    requires { WithinLimits header }
-    ensures { FoundFew result × ((A : Automaton) → Ready A header table.now leaves.now
+pub fn saturate(prepared: Prepared, rows: &mut RowTable) -> Saturated
+    requires { WithinLimits prepared.header }
+    ensures { FoundFew result × ((A : Automaton) → ReadyFor A prepared.entry
         → saturation_of A ≡ verdict_of result rows.new) }
 {
     let mut entered: Entered = [0; 64];
-    fill_entered(table, header.symbols, &mut entered);
+    fill_entered(prepared.table, prepared.header.symbols, &mut entered);
     let mut doubles: Doubles = [0; 128];
     let mut old: usize = 0;
     let mut n: usize = 0;
     let mut height: usize = 0;
     loop {
-        mark(&entered, header.symbols, rows, old, n, &mut doubles);
-        match round(table, leaves, header, height, old, n, &doubles, rows) {
+        mark(
+            &entered,
+            prepared.header.symbols,
+            rows,
+            old,
+            n,
+            &mut doubles,
+        );
+        match round(prepared, height, old, n, &doubles, rows) {
             Tried::Accepted(origin) => return Saturated::Found {
                 height,
                 rows: n,

@@ -7,7 +7,7 @@ use determinism::Singleness;
 use refusal::Refusal;
 use sampling::access::number;
 use sampling::random::seed;
-use sampling::report::{count, labelled, text};
+use sampling::report::{count, differences, labelled, row, text};
 use sampling::rules::Automaton;
 use search::files;
 
@@ -15,18 +15,20 @@ use search::files;
 const AUTOMATA: usize = 2000;
 
 // What is told of a file: single (0), not single (1), or refused (2) with the refusal's number and place.
-#[derive(Clone, Copy)]
+#[derive(Clone, Copy, PartialEq, Eq)]
 struct Answer {
     kind: usize,
     number: usize,
     place: usize,
 }
 
-fn judged(single: bool) -> Answer {
-    Answer {
-        kind: if single { 0 } else { 1 },
-        number: 0,
-        place: 0,
+impl From<bool> for Answer {
+    fn from(single: bool) -> Self {
+        Answer {
+            kind: if single { 0 } else { 1 },
+            number: 0,
+            place: 0,
+        }
     }
 }
 
@@ -39,24 +41,22 @@ fn refused(number: usize, place: usize) -> Answer {
 }
 
 // A refusal of another file than the automaton's is told as number 0.
-fn refused_by(refusal: Refusal) -> Answer {
-    if refusal.file == 0 {
-        refused(refusal.number as usize, refusal.place)
-    } else {
-        refused(0, 0)
+impl From<Refusal> for Answer {
+    fn from(refusal: Refusal) -> Answer {
+        if refusal.file == 0 {
+            refused(refusal.number as usize, refusal.place)
+        } else {
+            refused(0, 0)
+        }
     }
 }
 
 fn engine(file: &[u8]) -> Answer {
     match determinism::single_file(file) {
-        Singleness::Single => judged(true),
-        Singleness::Multiple => judged(false),
-        Singleness::Refused(refusal) => refused_by(refusal),
+        Ok(Singleness::Single) => Answer::from(true),
+        Ok(Singleness::Multiple) => Answer::from(false),
+        Err(refusal) => Answer::from(refusal),
     }
-}
-
-fn differ(a: Answer, b: Answer) -> bool {
-    a.kind != b.kind || a.number != b.number || a.place != b.place
 }
 
 fn count_if(counts: &mut [usize], at: usize, holds: bool) {
@@ -70,7 +70,7 @@ fn compare(counts: &mut [usize], family: usize, file: &[u8], expected: Answer) {
     let found = engine(file);
     count(counts, family % 4 * 3 + expected.kind % 3);
     count_if(counts, 16 + expected.number % 15, expected.kind == 2);
-    count_if(counts, 31, differ(found, expected));
+    count_if(counts, 31, found != expected);
 }
 
 // An automaton's file as its data has it, of which these are expected.
@@ -104,7 +104,7 @@ fn one(counts: &mut [usize], k: usize, family: usize) {
     let mut random = seed(k);
     let mut records = [0u8; 2560];
     let a = repeats::make(&mut random, &mut records, family);
-    let expected = judged(repeats::is_single(&records, a));
+    let expected = Answer::from(repeats::is_single(&records, a));
     compare_data(counts, family, a, &records, expected);
     compare_damaged(counts, &mut random, family, a, &mut records);
 }
@@ -125,14 +125,6 @@ fn line(label: &[u8], counts: &[usize], at: usize) {
     text(b"\n");
 }
 
-fn print_refusals(counts: &[usize]) {
-    text(b"refusals 1 to 9:");
-    for i in 1..10usize {
-        labelled(b" ", number(counts, 16 + i));
-    }
-    text(b"\n");
-}
-
 fn main() {
     let mut counts = [0usize; 32];
     run(&mut counts);
@@ -140,7 +132,6 @@ fn main() {
     line(b"place 3 and copies", &counts, 3);
     line(b"changed copies", &counts, 6);
     line(b"any rules", &counts, 9);
-    print_refusals(&counts);
-    labelled(b"differences ", number(&counts, 31));
-    text(b"\n");
+    row(b"refusals 1 to 9:", &counts, 17, 26);
+    differences(number(&counts, 31));
 }

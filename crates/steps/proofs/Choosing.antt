@@ -24,7 +24,7 @@ use Rattle.transitions.proofs.Laws.{place-small}
 use Rattle.transitions.specs.Compiled.{Compiled}
 use Rattle.steps.specs.Choices.{Choice, Makes, Halts, or_else, first_of, choice, code_of, decoded, choice_cell, code_at, Chosen}
 use Rattle.steps.specs.Successors.{goes}
-use Rattle.steps.specs.declared.Successor.{Successor}
+use Rattle.std.proofs.Common.{None}
 
 -- ---- bytes
 
@@ -153,10 +153,10 @@ module _ (t : List ℕ) (cell at : ℕ) (e : at ≡ cell / 24 * 96 + cell % 24) 
               rw (← stay-is, or-none stay Stay _ no-stay, ← up_is, or-none up Up _ no-up, ← left_is, or-none left (Down Left) _ no-left, ← right_is, or-none right (Down Right) _ n)
 
 -- a leaf has no parts
-pub leaf-stays : (P R : List ℕ) (i c : ℕ) → 64 ≤ c → c < 128 → get_or R i 0 ≡ 0 → Successor.Nowhere ≡ goes P R i (decoded c)
+pub leaf-stays : (P R : List ℕ) (i c : ℕ) → 64 ≤ c → c < 128 → get_or R i 0 ≡ 0 → None ≡ goes P R i (decoded c)
 unfolding decoded
 leaf-stays P R i c l h z = go (dec_lt c 96)
   where
-    go : Dec (c < 96) → Successor.Nowhere ≡ goes P R i (decoded c)
+    go : Dec (c < 96) → None ≡ goes P R i (decoded c)
     go (yes k) = rw (le-ltb c 32 (omega arith), le-ltb c 64 l, lt-ltb c 96 k, eq-eqb _ 0 z)
     go (no k) = rw (le-ltb c 32 (omega arith), le-ltb c 64 l, le-ltb c 96 (omega arith), lt-ltb c 128 h, eq-eqb _ 0 z)

@@ -15,7 +15,6 @@ use Rattle.model.specs.declared.Side.TheVariants.{Left, Right}
 use Rattle.model.specs.declared.Place.{Place}
 use Rattle.model.specs.declared.Place.TheVariants.{Root}
 use Rattle.model.specs.declared.Move.{Move}
-use Rattle.model.specs.declared.State.{State}
 use Rattle.model.specs.declared.Move.TheVariants.{Stay, Up, Down}
 use Rattle.model.specs.Trees.{Tree, leaf, node, symbol, size}
 use Rattle.model.specs.Runs.{Position, place, Config, Step, stays, climbs, descends, Deterministic}
@@ -29,7 +28,8 @@ use Rattle.links.proofs.Numbering.{some-nodes, numbered-at, number-unique, numbe
 use Rattle.links.proofs.Linking.{linked-own, symbol-is, named-once}
 use Rattle.steps.specs.Choices.{Choice, Makes, Halts, or_else, first_of, choice}
 use Rattle.steps.specs.Successors.{to, goes, successor}
-use Rattle.steps.specs.declared.Successor.TheVariants.{Nowhere}
+use Rattle.steps.specs.declared.Configuration.{Configuration}
+use Rattle.std.proofs.Common.{None}
 use Rattle.steps.proofs.Choosing.{transitions-low}
 
 -- ---- the choice is a transition, and where there is none no transition is
@@ -101,11 +101,13 @@ module _ (A : Automaton) (t : Tree) where
       let e : ◌≡◌ {A = Position} (Right ∷ α) [] = (named-once (subst (λ (k : ℕ). Numbered t k (Right ∷ α) r) z m) first).0 in
       clash (cc)
 
-  not-to : (j q : ℕ) → Nowhere ≡ to j q → ⊥
+  not-to : (j q : ℕ) → None ≡ to j q → ⊥
   not-to j q e = clash (cc)
 
   same-to : (i j p q : ℕ) → to i p ≡ to j q → (i ≡ j) × (p ≡ q)
-  same-to i j p q e = (cc, ap (λ (s : State). s.0) (let f : ◌≡◌ {A = State} (record { 0 = p }) (record { 0 = q }) = cc in f))
+  same-to i j p q e =
+      let f : ◌≡◌ {A = Configuration} (record { node = i; state = record { 0 = p } }) (record { node = j; state = record { 0 = q } }) = cc in
+      (ap (λ (c : Configuration). c.node) f, ap (λ (c : Configuration). c.state.0) f)
 
   -- only the root is node 0
   below_root : {u : Tree} {i : ℕ} {s : Side} {α : Position} → Numbered t i (s ∷ α) u → i ≡ 0 → ⊥
@@ -230,5 +232,5 @@ module _ (A : Automaton) (proper : Proper A) (t : Tree) {u : Tree} {i : ℕ} {α
         (g.target, g.tree, g.named, here ∙ ap (goes (parents_of t) (rights_of t) i) c ∙ g.goes-is)
 
     -- so where it leads nowhere there is none
-    pub no_step : successor A t i p ≡ Nowhere → {β : Position} {q : ℕ} → Step (Δ A) Root t (α, p) (β, q) → ⊥
+    pub no_step : successor A t i p ≡ None → {β : Position} {q : ℕ} → Step (Δ A) Root t (α, p) (β, q) → ⊥
     no_step e x = let s = led-step x in not-to A t s.0 _ (sym e ∙ s.3)

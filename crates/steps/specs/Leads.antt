@@ -1,7 +1,7 @@
 -- Whether some step leads from one configuration to another, by node numbers. The automaton need not be deterministic. `Leading` has the law that it
 -- is the model's `Step`.
 -- Interface: `arrives`, `some_move`, `leads_in`, `leads`.
-use Rattle.std.specs.Prelude.{ℕ, Bool, false, ◌&&◌, ◌||◌, List, eqb, get_or}
+use Rattle.std.specs.Prelude.{ℕ, Bool, false, ◌&&◌, ◌||◌, List, Option, None, Some, eqb, get_or}
 use Rattle.relation.specs.Sets.{member}
 use Rattle.model.specs.Trees.{Tree}
 use Rattle.model.specs.declared.Side.TheVariants.{Left, Right}
@@ -14,12 +14,12 @@ use Rattle.nodes.specs.Preorder.{preorder}
 use Rattle.links.specs.Links.{parents_of, rights_of, place_in}
 use Rattle.steps.specs.Choices.{Makes}
 use Rattle.steps.specs.Successors.{goes}
-use Rattle.steps.specs.declared.Successor.{Successor}
+use Rattle.steps.specs.declared.Configuration.{Configuration}
 
 -- at node j
-abbrev pub arrives : Successor → (j : ℕ) → Bool
-arrives (Successor.To k q) j = eqb k j
-arrives Successor.Nowhere j = false
+abbrev pub arrives : Option Configuration → (j : ℕ) → Bool
+arrives (Some c) j = eqb c.node j
+arrives None j = false
 
 -- the move leads from node i to node j, and the transitions of a symbol and a place allow it from state p into state q
 abbrev pub leads_by : Next → (parents rights : List ℕ) → (symbol : ℕ) → Place → (i p j q : ℕ) → Move → Bool

@@ -6,16 +6,10 @@ ghost use Rattle.steps.specs.Choices.{Makes};
 ghost use Rattle.steps.specs.Successors.{goes};
 ghost use Rattle.steps.specs.Leads.{arrives, leads_by, leads_in};
 
+use crate::Configuration;
 use links::place_at;
-use model::{Move, Place, Side, State, Symbol};
+use model::{Move, Place, Side, Symbol};
 use transitions::TransitionTable;
-
-// A node of a node list and a state.
-#[derive(Clone, Copy)]
-pub struct Configuration {
-    pub node: usize,
-    pub state: State,
-}
 
 // Whether a node's part is the node `next`.
 fn descends(rights: &[u16], node: usize, side: Side, next: usize) -> bool

@@ -16,11 +16,11 @@ use links::place_at;
 use model::{Place, State, Symbol};
 use transitions::{TransitionTable, place_number};
 
-// A node and a state, or nothing.
+// A node of a node list and a state.
 #[derive(Clone, Copy)]
-pub enum Successor {
-    To(usize, State),
-    Nowhere,
+pub struct Configuration {
+    pub node: usize,
+    pub state: State,
 }
 
 // A byte for each of 32 symbols, 3 places and 24 states: a move, 32 times, and a next state; or 255.
@@ -64,10 +64,8 @@ pub fn choose(table: &TransitionTable, symbols: usize, choices: &mut [u8])
     ensures { (A : Automaton) → Proper A → Compiled A table.now → Chosen symbols A.next choices.new }
 {
     let end = symbols * 72;
-    let mut cell = 0;
-    while cell < end {
+    for cell in 0..end {
         choices[cell] = code_at(table, cell);
-        cell += 1;
     }
 }
 
@@ -80,38 +78,51 @@ fn choice_cell(symbol: Symbol, place: Place, state: State) -> usize
 }
 
 // Up to the parent, where there is one.
-fn up(parents: &[u16], node: usize, code: u8) -> Successor
+fn up(parents: &[u16], node: usize, code: u8) -> Option<Configuration>
     requires { (node < length parents.now) × (32 ≤ code) × (code < 64) }
     ensures { (rights : List ℕ) → result ≡ goes parents.now rights node (decoded code) }
 {
     if node == 0 {
-        return Successor::Nowhere;
+        return None;
     }
-    Successor::To(parents[node] as usize, State(code - 32))
+    let parent = parents[node] as usize;
+    Some(Configuration {
+        node: parent,
+        state: State(code - 32),
+    })
 }
 
 // Down to a part, where there are two.
-fn down(rights: &[u16], node: usize, code: u8) -> Successor
+fn down(rights: &[u16], node: usize, code: u8) -> Option<Configuration>
     requires { (node < length rights.now) × (node < 65536) × (64 ≤ code) × (code < 128) }
     ensures { (parents : List ℕ) → result ≡ goes parents rights.now node (decoded code) }
 {
     let right = rights[node] as usize;
     if right == 0 {
-        return Successor::Nowhere;
+        return None;
     }
     if code < 96 {
-        return Successor::To(node + 1, State(code - 64));
+        return Some(Configuration {
+            node: node + 1,
+            state: State(code - 64),
+        });
     }
-    Successor::To(right, State(code - 96))
+    Some(Configuration {
+        node: right,
+        state: State(code - 96),
+    })
 }
 
-// Where the choice of a byte leads from a node.
-fn go(parents: &[u16], rights: &[u16], node: usize, code: u8) -> Successor
+// Where the choice of a byte leads from a node, where it leads anywhere.
+fn go(parents: &[u16], rights: &[u16], node: usize, code: u8) -> Option<Configuration>
     requires { (node < length parents.now) × (node < length rights.now) × (node < 65536) }
     ensures { result ≡ goes parents.now rights.now node (decoded code) }
 {
     if code < 32 {
-        return Successor::To(node, State(code));
+        return Some(Configuration {
+            node,
+            state: State(code),
+        });
     }
     if code < 64 {
         return up(parents, node, code);
@@ -119,25 +130,25 @@ fn go(parents: &[u16], rights: &[u16], node: usize, code: u8) -> Successor
     if code < 128 {
         return down(rights, node, code);
     }
-    Successor::Nowhere
+    None
 }
 
-// The step from a node of a node list in a state, by the list's links.
+// The step from a configuration, by the node list and its links, where there is one.
 pub fn step(
     nodes: &[u8],
     choices: &ChoiceTable,
     parents: &[u16],
     rights: &[u16],
-    node: usize,
-    state: State,
-) -> Successor
-    requires { (node < length nodes.now) × (node < length parents.now) × (node < length rights.now) × (node < 65536)
-        × (get_or nodes.now node 0 < 32) × (state.0 < 24) }
-    ensures { result ≡ goes parents.now rights.now node
-        (decoded (get_or choices.now (choice_cell (get_or nodes.now node 0) (place_in parents.now node) state.0) 0)) }
+    from: Configuration,
+) -> Option<Configuration>
+    requires { (from.node < length nodes.now) × (from.node < length parents.now) × (from.node < length rights.now) × (from.node < 65536)
+        × (get_or nodes.now from.node 0 < 32) × (from.state.0 < 24) }
+    ensures { result ≡ goes parents.now rights.now from.node
+        (decoded (get_or choices.now (choice_cell (get_or nodes.now from.node 0) (place_in parents.now from.node) from.state.0) 0)) }
 {
+    let node = from.node;
     let symbol = Symbol(nodes[node]);
     let place = place_at(parents, node);
-    let cell = choice_cell(symbol, place, state);
+    let cell = choice_cell(symbol, place, from.state);
     go(parents, rights, node, choices[cell])
 }

@@ -7,7 +7,6 @@ ghost use Rattle.tags.specs.Classes.{class_of, IsTable};
 ghost use Rattle.tags.specs.Tags.{digit_of, tag_at, no_branch, bad_tag};
 
 use algorithms::is_branch;
-use blocks::Found;
 use model::Symbol;
 
 // The classes of bytes.
@@ -122,15 +121,13 @@ fn is_bad_tag(branches: u32, text: &[u8], at: usize) -> bool
 }
 
 // The first `<` of a tag whose symbol is no branch symbol.
-pub fn first_bad_tag(branches: u32, text: &[u8]) -> Found
+pub fn first_bad_tag(branches: u32, text: &[u8]) -> Option<usize>
     ensures { result ≡ lowest (bad_tag branches text.now) (length text.now) }
 {
-    let mut at = 0;
-    while at < text.len() {
+    for at in 0..text.len() {
         if is_bad_tag(branches, text, at) {
-            return Found::At(at);
+            return Some(at);
         }
-        at += 1;
     }
-    Found::Nothing
+    None
 }

@@ -1,8 +1,7 @@
 -- The tally after one more outcome, and the percent of accepted trees (document 01, Tally and report; line 14 of the table; document 02, W3).
 -- Interface: `counted_up`, `judged_in`, `percent_of`.
-use Rattle.std.specs.Prelude.{ℕ, ◌+◌, ◌*◌, ◌/◌, ◌%◌, cond, eqb, leb, ltb}
-use Rattle.refusal.specs.Checks.{refuse_if}
-use Rattle.refusal.specs.declared.Check.{Check}
+use Rattle.std.specs.Prelude.{ℕ, ◌+◌, ◌*◌, ◌/◌, ◌%◌, cond, eqb, leb, ltb, Ok, Err}
+use Rattle.refusal.specs.Checks.{refuse_if, Check}
 use Rattle.refusal.specs.declared.Fault.{Fault}
 use Rattle.tally.specs.declared.Outcome.{Outcome}
 use Rattle.tally.specs.declared.Tallied.{Tallied}
@@ -24,8 +23,8 @@ plus_one t Outcome.Refused = record { accepted = t.accepted; other = t.other; re
 
 -- one more where the check passes, and the tally as it was where it refuses
 abbrev pub tally_after : Check → Tally → Outcome → Tallied
-tally_after Check.Passed t o = record { tally = plus_one t o; check = Check.Passed }
-tally_after (Check.Refused r) t o = record { tally = t; check = Check.Refused r }
+tally_after (Ok tt) t o = record { tally = plus_one t o; check = Ok tt }
+tally_after (Err r) t o = record { tally = t; check = Err r }
 
 -- the tally after one more outcome, and whether the outcome was counted
 unfoldable pub counted_up : Tally → Outcome → Tallied

@@ -5,7 +5,7 @@ ghost use Rattle.std.specs.Prelude.{◌≡◌};
 ghost use Rattle.tally.specs.Tally.{counted_up, percent_of};
 ghost use Rattle.tally.specs.Rounding.{PercentRight};
 
-use refusal::{Check, Fault, refused};
+use refusal::{Fault, Refusal, refused};
 
 #[derive(Clone, Copy)]
 pub struct Tally {
@@ -26,7 +26,7 @@ pub enum Outcome {
 #[derive(Clone, Copy)]
 pub struct Tallied {
     pub tally: Tally,
-    pub check: Check,
+    pub check: Result<(), Refusal>,
 }
 
 // A tally whose numbers add to this or more counts no further.
@@ -49,12 +49,12 @@ pub fn counted(tally: Tally, outcome: Outcome) -> Tallied
     }
     Tallied {
         tally: next,
-        check: Check::Passed,
+        check: Ok(()),
     }
 }
 
 // The lent tally counts one more where it is; where it is full it stays as it was, and refusal 14 is the answer.
-pub fn count(tally: &mut Tally, outcome: Outcome) -> Check
+pub fn count(tally: &mut Tally, outcome: Outcome) -> Result<(), Refusal>
     ensures { (tally.new ≡ (counted_up tally.old outcome).tally)
         × (result ≡ (counted_up tally.old outcome).check) }
 {

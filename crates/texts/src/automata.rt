@@ -1,7 +1,7 @@
 // Automata by chance, and their files. Symbol 0 is mostly a leaf, and most other symbols are branches.
-use crate::chance::{pick, scattered};
+use crate::chance::pick;
 use sampling::access::modulo;
-use sampling::random::seed;
+use sampling::random::{scattered, seed};
 use sampling::rules;
 use sampling::rules::Automaton;
 use search::files;

@@ -2,15 +2,7 @@
 ghost use Rattle.std.specs.Prelude.{◌≤◌};
 
 use sampling::access::modulo;
-
-// A number below 2^32.
-pub fn scattered(n: usize) -> usize
-    ensures { result ≤ 4294967295 }
-{
-    let a = n % 268435456 * 2654435761;
-    let b = (a ^ (a >> 29)) % 4294967296 * 2246822507;
-    (b ^ (b >> 31)) / 65536 % 4294967296
-}
+use sampling::random::scattered;
 
 // Draw `what` for text k: a number below the limit, or 0.
 pub fn pick(k: usize, what: usize, limit: usize) -> usize

@@ -3,20 +3,8 @@
 // ended, or why there is no log (tools/watch makes the input, and a status of what is said).
 #![tactic(auto)]
 
-use refusal::Refusal;
+use telling::{hand_over, read_front, say, say_refused};
 use watch::Watched;
-
-fn say(words: &[u8], n: usize) {
-    io::write_all(2, words);
-    io::print_decimal(2, n as u64);
-}
-
-fn say_refused(refusal: Refusal) {
-    say(b"trace: refused=", refusal.number as usize);
-    say(b" file=", refusal.file as usize);
-    say(b" place=", refusal.place);
-    io::write_all(2, b"\n");
-}
 
 // The entries of so many steps, or none where the log is shorter.
 fn entries(log: &[u8], steps: usize) -> &[u8] {
@@ -28,32 +16,22 @@ fn entries(log: &[u8], steps: usize) -> &[u8] {
 }
 
 fn print_walk(log: &[u8], answer: &[u8], steps: usize) {
-    if !io::write_all(1, entries(log, steps)) {
-        io::write_all(2, b"trace: output lost\n");
-        return;
+    if hand_over(entries(log, steps), b"trace: output lost\n") {
+        say(answer, steps);
+        io::write_all(2, b"\n");
     }
-    say(answer, steps);
-    io::write_all(2, b"\n");
 }
 
 // A budget of at most 20,000 steps has 20,001 entries, so that 13 is not met.
 fn follow(automaton: &[u8], tree: &[u8], budget: usize) {
     let mut log = [0u8; 60003];
     match watch::watch(automaton, tree, budget, &mut log) {
-        Watched::Passed(steps) => print_walk(&log, b"trace: passed steps=", steps),
-        Watched::Stuck(steps) => print_walk(&log, b"trace: stuck steps=", steps),
-        Watched::Circling(steps) => print_walk(&log, b"trace: circling steps=", steps),
-        Watched::Spent(steps) => print_walk(&log, b"trace: spent steps=", steps),
-        Watched::Refused(refusal) => say_refused(refusal),
+        Ok(Watched::Passed(steps)) => print_walk(&log, b"trace: passed steps=", steps),
+        Ok(Watched::Stuck(steps)) => print_walk(&log, b"trace: stuck steps=", steps),
+        Ok(Watched::Circling(steps)) => print_walk(&log, b"trace: circling steps=", steps),
+        Ok(Watched::Spent(steps)) => print_walk(&log, b"trace: spent steps=", steps),
+        Err(refusal) => say_refused(b"trace: refused=", refusal),
     }
-}
-
-// Fills the first n bytes of a buffer from the input; false where either is shorter.
-fn read_front(buffer: &mut [u8], n: usize) -> bool {
-    if buffer.len() < n {
-        return false;
-    }
-    io::read_full(0, &mut buffer[..n]) == n
 }
 
 // An automaton's file has at most 3,072 bytes and a tree's 4,608: of each one byte more is read, by which a longer one is refused.

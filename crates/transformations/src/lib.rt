@@ -10,6 +10,7 @@ ghost use Rattle.std.specs.Prelude.{◌≤◌};
 
 use emptiness::{Quick, Survey};
 use enumerated::plan;
+use refusal::Refusal;
 use sampling::access::{number, only, set_number};
 use sampling::rules;
 use sampling::rules::{Automaton, Rule};
@@ -18,8 +19,8 @@ use search::files;
 // The answers to one automaton's file, and whether they are right.
 #[derive(Clone, Copy)]
 pub struct Outcome {
-    pub survey: Survey,
-    pub quick: Quick,
+    pub survey: Result<Survey, Refusal>,
+    pub quick: Result<Quick, Refusal>,
     pub right: bool,
 }
 
@@ -87,20 +88,20 @@ fn make_passes(rules: &mut [u8], values: usize) -> Automaton {
 }
 
 // What the survey answers to an automaton's file.
-fn survey(a: Automaton, rules: &[u8], buffer: &mut [u8]) -> Survey {
+fn survey(a: Automaton, rules: &[u8], buffer: &mut [u8]) -> Result<Survey, Refusal> {
     let mut file = [0u8; 1024];
     let n = files::write_automaton(&mut file, a, rules);
     emptiness::file::survey(files::front(&file, n), buffer)
 }
 
-fn quick(a: Automaton, rules: &[u8]) -> Quick {
+fn quick(a: Automaton, rules: &[u8]) -> Result<Quick, Refusal> {
     let mut file = [0u8; 1024];
     let n = files::write_automaton(&mut file, a, rules);
     emptiness::file::quick(files::front(&file, n))
 }
 
 // What the survey answers to the case that is only run.
-pub fn surveyed() -> Survey {
+pub fn surveyed() -> Result<Survey, Refusal> {
     let mut rules = [0u8; 2560];
     let mut buffer = [0u8; 195];
     let a = make(&mut rules, 1);
@@ -200,27 +201,27 @@ fn right(
     rules: &[u8],
     heights: &[usize],
     values: usize,
-    answer: Survey,
+    answer: Result<Survey, Refusal>,
     buffer: &[u8],
 ) -> bool {
     let below = least(heights, values);
     let full = full_height(heights);
     match answer {
-        Survey::Found { height: h, rows: n } => {
+        Ok(Survey::Found { height: h, rows: n }) => {
             h == below % 256 + 1
                 && h <= full
                 && n == made(heights, below) % 4096 + 1
                 && plan::builds(a, rules, buffer, h, n)
                 && plan::unchanged(buffer, n % 256 * 3, values)
         }
-        Survey::Open(h) => h == full && full <= below && plan::unchanged(buffer, 0, values),
+        Ok(Survey::Open(h)) => h == full && full <= below && plan::unchanged(buffer, 0, values),
         _ => false,
     }
 }
 
-fn is_unsure(answer: Quick) -> bool {
+fn is_unsure(answer: Result<Quick, Refusal>) -> bool {
     match answer {
-        Quick::Unsure => true,
+        Ok(Quick::Unsure) => true,
         _ => false,
     }
 }

@@ -1,5 +1,6 @@
 -- Laws of the table: a store to one cell, a rule's places, the rules one by one.
 -- Assumes nothing.
+use Rattle.std.proofs.Common.{Some, None, Result, Ok}
 use Prim.Native.Nat.{ℕ, ◌+◌, ◌*◌, ◌^◌, ◌<◌}
 use mathlib.Core.Path.{◌≡◌, refl, sym, ap, ◌∙◌}
 use mathlib.Core.Bool.{Bool, true, false, ◌&&◌}
@@ -21,10 +22,9 @@ use Rattle.automaton.specs.Rules.{rule_at}
 use Rattle.automaton.specs.declared.Header.{Header}
 use Rattle.automaton.specs.declared.Rule.{Rule}
 use Rattle.automaton.specs.declared.Scope.{Scope}
-use Rattle.automaton.specs.declared.file.Parsed.{Parsed}
-use Rattle.automaton.specs.declared.rules.RuleBytes.{RuleBytes}
 use Rattle.transitions.specs.Transitions.{place_number, fits, with_if, added_by, next_states, automaton_of}
 use Rattle.transitions.specs.Compiled.{cell_of, RuleFits, Stepped, Added, Tabulates, Compiled, Loaded}
+use Rattle.refusal.specs.declared.Refusal.{Refusal}
 
 pub place-small : (τ : Place) → place_number τ < 3
 place-small Place.Root = lit< tt
@@ -95,12 +95,12 @@ module _ (t : List ℕ) (r : Rule) (π : Place) (long : length t ≡ 9216) (with
 
 -- ---- a rule's places
 
-pub at_one : (r : Rule) {t t₁ : List ℕ} {π : Place} → r.scope ≡ Scope.Only π → Stepped r π t t₁ → Added (RuleBytes.Known r) t t₁
+pub at_one : (r : Rule) {t t₁ : List ℕ} {π : Place} → r.scope ≡ Scope.Only π → Stepped r π t t₁ → Added (Some r) t t₁
 at_one r e s = record { size = s.size; cells = λ σ τ μ p hσ hp. rw e (s.cells σ τ μ p hσ hp) }
 
 module _ (r : Rule) {t t₁ t₂ t₃ : List ℕ} where
   pub at_every : r.scope ≡ Scope.Every → Stepped r Place.Root t t₁ → Stepped r (Place.Child Side.Left) t₁ t₂
-      → Stepped r (Place.Child Side.Right) t₂ t₃ → Added (RuleBytes.Known r) t t₃
+      → Stepped r (Place.Child Side.Right) t₂ t₃ → Added (Some r) t t₃
   at_every e s₀ s₁ s₂ = record { size = s₂.size ∙ s₁.size ∙ s₀.size; cells = λ σ τ μ p hσ hp. rw e (go σ τ μ p hσ hp) }
     where
       go : (σ : ℕ) (τ : Place) (μ : Move) (p : ℕ) → σ < 32 → p < 24
@@ -113,7 +113,7 @@ module _ (r : Rule) {t t₁ t₂ t₃ : List ℕ} where
           let τ = Place.Child Side.Right in
           s₂.cells σ τ μ p hσ hp ∙ ap (with_if (fits r true σ μ p) r.next.0) (s₁.cells σ τ μ p hσ hp ∙ s₀.cells σ τ μ p hσ hp)
 
-pub unknown-adds : (t : List ℕ) → Added RuleBytes.Unknown t t
+pub unknown-adds : (t : List ℕ) → Added None t t
 unknown-adds t = record { size = refl; cells = λ σ τ μ p hσ hp. refl }
 
 -- ---- the rules one by one
@@ -137,5 +137,5 @@ one-held h content n t t' old new =
 
 -- ---- what loading leaves, of a file that reads
 
-pub loaded-read : (r : Parsed) (h : Header) (s before after : List ℕ) → r ≡ Parsed.Read h → Loaded r s before after → Compiled (automaton_of h (content s)) after
+pub loaded-read : (r : Result Header Refusal) (h : Header) (s before after : List ℕ) → r ≡ Ok h → Loaded r s before after → Compiled (automaton_of h (content s)) after
 loaded-read r h s before after e l = rw e at l

@@ -1,6 +1,7 @@
 -- The automaton of a file: its transitions are those that some rule allows (`transition-has`), and of a file that reads without refusal it is
 -- proper (`file-proper`), never goes up from the root and goes down at branch symbols only (`no-exit`, `no_descent`).
 -- Assumes nothing.
+use Rattle.std.proofs.Common.{Option, Some, None, Ok}
 use Prim.Native.Nat.{ℕ, zero, suc, ◌/◌, ◌^◌, ◌<◌}
 use mathlib.Core.Path.{◌≡◌, refl, ap, subst}
 use mathlib.Core.Logic.{◌⊎◌, inl, inr, ⊎_elim, ◌↔◌}
@@ -20,7 +21,6 @@ use Rattle.model.specs.declared.Move.{Move}
 use Rattle.algorithms.specs.Automaton.{In, Δ, Proper}
 use Rattle.blocks.specs.Blocks.{content}
 use Rattle.refusal.specs.Checks.{refuse_if, ◌and_then◌}
-use Rattle.refusal.specs.declared.Check.TheVariants.{Passed}
 use Rattle.refusal.specs.declared.Fault.{Fault}
 use Rattle.refusal.proofs.Passed.{count-passed, clash, and-is-true, both-passed, if-passed}
 use Rattle.automaton.specs.Payload.{move_byte}
@@ -29,8 +29,6 @@ use Rattle.automaton.specs.File.{format, beyond, sets_check, parsed}
 use Rattle.automaton.specs.declared.Header.{Header}
 use Rattle.automaton.specs.declared.Rule.{Rule}
 use Rattle.automaton.specs.declared.Scope.{Scope}
-use Rattle.automaton.specs.declared.file.Parsed.{Parsed}
-use Rattle.automaton.specs.declared.rules.RuleBytes.{RuleBytes}
 use Rattle.automaton.proofs.Bytes.{same-scope, same_move}
 use Rattle.automaton.proofs.Passed.{counts-passed, rule-in, file-read}
 use Rattle.transitions.specs.Transitions.{Covers, Applies, Allowed, place_number, covers, fits, with_if, added_by, next_states, automaton_of}
@@ -76,16 +74,16 @@ in-with_if true q set i = (
 in-with_if false q set i = (inr, ⊎_elim (λ e. clash (cc e.0)) (λ h. h))
 
 -- what one record adds
-in-added : (bytes : RuleBytes) (σ : ℕ) (τ : Place) (μ : Move) (p set q : ℕ)
-    → In (added_by bytes σ τ μ p set) q ↔ (((r : Rule) × (bytes ≡ RuleBytes.Known r) × Applies r σ p τ μ q) ⊎ In set q)
-in-added RuleBytes.Unknown σ τ μ p set q = (inr, ⊎_elim (λ e. clash (cc e.1)) (λ h. h))
-in-added (RuleBytes.Known r) σ τ μ p set q =
+in-added : (bytes : Option Rule) (σ : ℕ) (τ : Place) (μ : Move) (p set q : ℕ)
+    → In (added_by bytes σ τ μ p set) q ↔ (((r : Rule) × (bytes ≡ Some r) × Applies r σ p τ μ q) ⊎ In set q)
+in-added None σ τ μ p set q = (inr, ⊎_elim (λ e. clash (cc e.1)) (λ h. h))
+in-added (Some r) σ τ μ p set q =
     let e = in-with_if (fits r (covers r.scope τ) σ μ p) r.next.0 set q in (
       λ h. ⊎_elim (λ x. let f = (fits-has r σ τ μ p).0 x.0 in inl (r, refl, (f.0, f.1, f.2, f.3, x.1))) inr (e.0 h),
       λ h. e.1 (⊎_elim first inr h),
     )
   where
-    first : (s : Rule) × (RuleBytes.Known r ≡ RuleBytes.Known s) × Applies s σ p τ μ q
+    first : (s : Rule) × (Some r ≡ Some s) × Applies s σ p τ μ q
         → ((fits r (covers r.scope τ) σ μ p ≡ true) × (r.next.0 ≡ q)) ⊎ In set q
     first (s, known, (a, b, c, d, f)) =
         let same : s ≡ r = cc in
@@ -99,18 +97,18 @@ next-has h s (suc n) σ τ μ p q =
     let ih = next-has h s n σ τ μ p q in
     (λ k. ⊎_elim here (λ x. earlier (ih.0 x)) (e.0 k), λ a. e.1 (back ih.1 a (dec_lt a.i n)))
   where
-    here : (r : Rule) × (rule_at h s n ≡ RuleBytes.Known r) × Applies r σ p τ μ q → Allowed h s (suc n) σ p τ μ q
+    here : (r : Rule) × (rule_at h s n ≡ Some r) × Applies r σ p τ μ q → Allowed h s (suc n) σ p τ μ q
     here (r, known, applies) = record { i = n; below = omega arith; rule = r; known = known; applies = applies }
 
     earlier : Allowed h s n σ p τ μ q → Allowed h s (suc n) σ p τ μ q
     earlier a = record { i = a.i; below = omega (arith, a.below); rule = a.rule; known = a.known; applies = a.applies }
 
     back : (Allowed h s n σ p τ μ q → In (next_states h s n σ τ μ p) q) → (a : Allowed h s (suc n) σ p τ μ q) → Dec (a.i < n)
-        → ((r : Rule) × (rule_at h s n ≡ RuleBytes.Known r) × Applies r σ p τ μ q) ⊎ In (next_states h s n σ τ μ p) q
+        → ((r : Rule) × (rule_at h s n ≡ Some r) × Applies r σ p τ μ q) ⊎ In (next_states h s n σ τ μ p) q
     back later a (yes l) = inr (later (record { i = a.i; below = l; rule = a.rule; known = a.known; applies = a.applies }))
     back later a (no l) =
         let last : a.i ≡ n = omega (arith, a.below) in
-        inl (a.rule, subst (λ (k : ℕ). rule_at h s k ≡ RuleBytes.Known a.rule) last a.known, a.applies)
+        inl (a.rule, subst (λ (k : ℕ). rule_at h s k ≡ Some a.rule) last a.known, a.applies)
 
 -- Δ of a file's automaton: some rule record matches
 pub transition-has : (h : Header) (s : List ℕ) (σ p : ℕ) (τ : Place) (μ : Move) (q : ℕ)
@@ -130,7 +128,7 @@ record SetsFit (h : Header) : Type 0 where
   accepting : beyond h.states h.accepting ≡ false
   branches : beyond h.symbols h.branches ≡ false
 
-sets-fit : (h : Header) → sets_check h ≡ Passed → SetsFit h
+sets-fit : (h : Header) → sets_check h ≡ Ok tt → SetsFit h
 unfolding sets_check
 sets-fit h e =
     let a = refuse_if (beyond h.states h.initial) Fault.Set 0 8 in
@@ -140,7 +138,7 @@ sets-fit h e =
     let y = both-passed b c x.1 in
     record { initial = if-passed _ Fault.Set 0 8 x.0; accepting = if-passed _ Fault.Set 0 12 y.0; branches = if-passed _ Fault.Set 0 16 y.1 }
 
-module _ (s : List ℕ) (h : Header) (e : parsed s ≡ Parsed.Read h) where
+module _ (s : List ℕ) (h : Header) (e : parsed s ≡ Ok h) where
   pub file-proper : Proper (automaton_of h (content s))
   file-proper =
       let read = file-read s h e in

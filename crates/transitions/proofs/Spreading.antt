@@ -1,4 +1,5 @@
 -- The spread rules of a file are the transitions of its automaton, each at one place (`spread-has`, `spread-transition`). Assumes nothing.
+use Rattle.std.proofs.Common.{Option, Some, None}
 use Prim.Native.Nat.{ℕ, zero, suc, ◌<◌}
 use mathlib.Core.Path.{◌≡◌, refl, sym, ap, subst, ◌∙◌}
 use mathlib.Core.Logic.{⊎_elim, ◌↔◌}
@@ -15,7 +16,6 @@ use Rattle.automaton.specs.Rules.{rule, rule_at}
 use Rattle.automaton.specs.declared.Header.{Header}
 use Rattle.automaton.specs.declared.Rule.{Rule}
 use Rattle.automaton.specs.declared.Scope.{Scope}
-use Rattle.automaton.specs.declared.rules.RuleBytes.{RuleBytes}
 use Rattle.transitions.specs.Transitions.{Covers, Applies, Allowed, automaton_of}
 use Rattle.transitions.specs.Spread.{places_of, at_place, spread, spread_first, spread_rules}
 use Rattle.transitions.proofs.Meaning.{transition-has}
@@ -47,7 +47,7 @@ module _ (s r : Rule) where
   of_places (π ∷ τs) (Memᴰ.tail m) = let k = of_places τs m in (k.0, Memᴰ.tail k.1, k.2)
 
   -- r is s at a place that s covers
-  spread-applies : (r ∈ spread (RuleBytes.Known s)) → (τ : Place) × (r.scope ≡ Scope.Only τ) × Applies s r.symbol.0 r.state.0 τ r.step r.next.0
+  spread-applies : (r ∈ spread (Some s)) → (τ : Place) × (r.scope ≡ Scope.Only τ) × Applies s r.symbol.0 r.state.0 τ r.step r.next.0
   spread-applies m =
       let k = of_places (places_of s.scope) m in
       let e = k.2 in (
@@ -62,7 +62,7 @@ module _ (s r : Rule) where
         ),
       )
 
-  applies-spread : (τ : Place) → r.scope ≡ Scope.Only τ → Applies s r.symbol.0 r.state.0 τ r.step r.next.0 → r ∈ spread (RuleBytes.Known s)
+  applies-spread : (τ : Place) → r.scope ≡ Scope.Only τ → Applies s r.symbol.0 r.state.0 τ r.step r.next.0 → r ∈ spread (Some s)
   applies-spread τ e (a, b, c, d, f) = mem-places (places_of s.scope) τ (mem-cover s.scope τ c) (rule-same r (at_place s τ) (sym a) (sym b) e (sym d) (sym f))
 
 -- ---- the records one by one
@@ -75,9 +75,9 @@ module _ (h : Header) (content : List ℕ) (r : Rule) where
   later : (n : ℕ) → OneOf h content n r → OneOf h content (suc n) r
   later n (τ, e, a) = (τ, e, record { i = a.i; below = omega (arith, a.below); rule = a.rule; known = a.known; applies = a.applies })
 
-  last : (n : ℕ) (bytes : RuleBytes) → rule_at h content n ≡ bytes → r ∈ spread bytes → OneOf h content (suc n) r
-  last n RuleBytes.Unknown e m = absurd (Memᴰ.not-nil m)
-  last n (RuleBytes.Known s) e m =
+  last : (n : ℕ) (bytes : Option Rule) → rule_at h content n ≡ bytes → r ∈ spread bytes → OneOf h content (suc n) r
+  last n None e m = absurd (Memᴰ.not-nil m)
+  last n (Some s) e m =
       let k = spread-applies s r m in
       (k.0, k.1, record { i = n; below = omega arith; rule = s; known = e; applies = k.2 })
 
@@ -98,8 +98,8 @@ module _ (h : Header) (content : List ℕ) (r : Rule) where
       by (no l) earlier =
           let a = o.2 in
           let same : a.i ≡ n = omega (arith, a.below) in
-          let known : rule_at h content n ≡ RuleBytes.Known a.rule = rw same at a.known in
-          Memᴰ.append_right (spread_first h content n) (subst (λ (bytes : RuleBytes). r ∈ spread bytes) (sym known) (applies-spread a.rule r o.0 o.1 a.applies))
+          let known : rule_at h content n ≡ Some a.rule = rw same at a.known in
+          Memᴰ.append_right (spread_first h content n) (subst (λ (bytes : Option Rule). r ∈ spread bytes) (sym known) (applies-spread a.rule r o.0 o.1 a.applies))
 
   pub spread-has : (n : ℕ) → (r ∈ spread_first h content n) ↔ OneOf h content n r
   spread-has n = (of-first n, to-first n)

@@ -1,15 +1,15 @@
 -- The compiled transitions: a set of next states for each of 32 symbols, 3 places, 4 moves and 24 states.
 -- Interface: `cell_of`, `Next`, `next_in`, `RuleFits`, `Stepped`, `Added`, `Compiled`, `Loaded`.
-use Rattle.std.specs.Prelude.{ℕ, ◌+◌, ◌*◌, ◌<◌, ◌≡◌, List, length, get_or, eqb}
+use Rattle.std.specs.Prelude.{ℕ, ◌+◌, ◌*◌, ◌<◌, ◌≡◌, List, length, get_or, eqb, Option, Result, Ok, Err}
 use Rattle.model.specs.declared.Place.{Place}
 use Rattle.model.specs.declared.Move.{Move}
 use Rattle.blocks.specs.Blocks.{content}
 use Rattle.automaton.specs.Payload.{move_byte}
 use Rattle.automaton.specs.declared.Rule.{Rule}
-use Rattle.automaton.specs.declared.file.Parsed.{Parsed}
-use Rattle.automaton.specs.declared.rules.RuleBytes.{RuleBytes}
 use Rattle.algorithms.specs.Automaton.{Automaton}
 use Rattle.transitions.specs.Transitions.{place_number, fits, with_if, added_by, automaton_of}
+use Rattle.automaton.specs.declared.Header.{Header}
+use Rattle.refusal.specs.declared.Refusal.{Refusal}
 
 -- the cell of a symbol, a place, a move and a state
 abbrev pub cell_of : ℕ → Place → Move → ℕ → ℕ
@@ -39,7 +39,7 @@ abbrev pub Stepped : Rule → Place → List ℕ → List ℕ → Type 0
 Stepped r π = Cells (λ σ τ μ p set. with_if (fits r (eqb (place_number π) (place_number τ)) σ μ p) r.next.0 set)
 
 -- t' is t with a rule's transitions
-abbrev pub Added : RuleBytes → List ℕ → List ℕ → Type 0
+abbrev pub Added : Option Rule → List ℕ → List ℕ → Type 0
 Added bytes = Cells (added_by bytes)
 
 -- each of the 9,216 cells is the set of next states
@@ -52,6 +52,6 @@ abbrev pub Compiled : Automaton → List ℕ → Type 0
 Compiled A = Tabulates A.next
 
 -- what loading a file leaves in the lent table: the automaton's, or, of a refused file, what stood there
-abbrev pub Loaded : Parsed → (file before after : List ℕ) → Type 0
-Loaded (Parsed.Read h) s before after = Compiled (automaton_of h (content s)) after
-Loaded (Parsed.Refused r) s before after = after ≡ before
+abbrev pub Loaded : Result Header Refusal → (file before after : List ℕ) → Type 0
+Loaded (Ok h) s before after = Compiled (automaton_of h (content s)) after
+Loaded (Err r) s before after = after ≡ before

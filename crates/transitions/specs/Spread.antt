@@ -1,6 +1,6 @@
 -- The rules of an automaton's file with place 3 spread over its places (document 02, W2). They are a set: who cites them asks only for `◌∈◌`.
 -- Interface: `places_of`, `at_place`, `spread`, `spread_first`, `spread_rules`, `SameRules`, `SameCounts`.
-use Rattle.std.specs.Prelude.{ℕ, zero, suc, ◌≡◌, ◌↔◌, List, [], ◌∷◌, ◌++◌, map}
+use Rattle.std.specs.Prelude.{ℕ, zero, suc, ◌≡◌, ◌↔◌, List, [], ◌∷◌, ◌++◌, map, Option, Some, None}
 use Rattle.model.specs.declared.Side.{Side}
 use Rattle.model.specs.declared.Place.{Place}
 use Rattle.model.specs.Lists.{◌∈◌}
@@ -8,7 +8,6 @@ use Rattle.automaton.specs.Rules.{rule, rule_at}
 use Rattle.automaton.specs.declared.Header.{Header}
 use Rattle.automaton.specs.declared.Rule.{Rule}
 use Rattle.automaton.specs.declared.Scope.{Scope}
-use Rattle.automaton.specs.declared.rules.RuleBytes.{RuleBytes}
 
 -- "3 all three" (document 01, the walker file)
 abbrev pub places_of : Scope → List Place
@@ -20,9 +19,9 @@ abbrev pub at_place : Rule → Place → Rule
 at_place r τ = rule r.symbol.0 r.state.0 (Scope.Only τ) r.step r.next.0
 
 -- "after place 3 is spread over its places"
-abbrev pub spread : RuleBytes → List Rule
-spread RuleBytes.Unknown = []
-spread (RuleBytes.Known r) = map (at_place r) (places_of r.scope)
+abbrev pub spread : Option Rule → List Rule
+spread None = []
+spread (Some r) = map (at_place r) (places_of r.scope)
 
 -- the spread rules of the first n records
 unfoldable pub spread_first : Header → List ℕ → (n : ℕ) → List Rule

@@ -1,7 +1,7 @@
 -- The automaton of a file: its counts and sets, and the transitions that its rules allow (document 01, the walker file; steps, runs, crossings:
 -- "A rule applies at a node of its symbol, in its state, at its place").
 -- Interface: `place_number`, `automaton_of`, `by_automaton`.
-use Rattle.std.specs.Prelude.{ℕ, zero, suc, ◌^◌, ◌<◌, ◌≡◌, Bool, true, false, ◌&&◌, List, eqb}
+use Rattle.std.specs.Prelude.{ℕ, zero, suc, ◌^◌, ◌<◌, ◌≡◌, Bool, true, false, ◌&&◌, List, eqb, Option, Some, None}
 use Rattle.std.specs.Int.Bits.{bit_or}
 use Rattle.model.specs.declared.Place.{Place}
 use Rattle.model.specs.declared.Move.{Move}
@@ -13,7 +13,6 @@ use Rattle.automaton.specs.Payload.{place_byte, move_byte}
 use Rattle.automaton.specs.declared.Header.{Header}
 use Rattle.automaton.specs.declared.Rule.{Rule}
 use Rattle.automaton.specs.declared.Scope.{Scope}
-use Rattle.automaton.specs.declared.rules.RuleBytes.{RuleBytes}
 
 -- ---- when a rule is a transition
 
@@ -31,7 +30,7 @@ pub record Allowed (h : Header) (content : List ℕ) (n : ℕ) (σ p : ℕ) (τ 
   pub i : ℕ
   pub below : i < n
   pub rule : Rule
-  pub known : rule_at h content i ≡ RuleBytes.Known rule
+  pub known : rule_at h content i ≡ Some rule
   pub applies : Applies rule σ p τ μ q
 
 -- ---- the same, computed
@@ -52,9 +51,9 @@ with_if true q set = bit_or set (2 ^ q)
 with_if false q set = set
 
 -- a set of next states, with the one that a rule adds
-abbrev pub added_by : RuleBytes → (σ : ℕ) → Place → Move → (p set : ℕ) → ℕ
-added_by RuleBytes.Unknown σ τ μ p set = set
-added_by (RuleBytes.Known r) σ τ μ p set = with_if (fits r (covers r.scope τ) σ μ p) r.next.0 set
+abbrev pub added_by : Option Rule → (σ : ℕ) → Place → Move → (p set : ℕ) → ℕ
+added_by None σ τ μ p set = set
+added_by (Some r) σ τ μ p set = with_if (fits r (covers r.scope τ) σ μ p) r.next.0 set
 
 -- the next states that the first n rules allow
 unfoldable pub next_states : Header → List ℕ → (n σ : ℕ) → Place → Move → (p : ℕ) → ℕ

@@ -8,10 +8,9 @@ ghost use Rattle.automaton.specs.Rules.{rule_at};
 ghost use Rattle.transitions.specs.Transitions.{place_number, automaton_of};
 ghost use Rattle.transitions.specs.Compiled.{cell_of, RuleFits, Stepped, Added, Compiled, Loaded};
 
-use automaton::file::Parsed;
-use automaton::rules::RuleBytes;
 use automaton::{Header, Rule, Scope};
 use model::{Move, Place, Side, State, Symbol};
+use refusal::Refusal;
 
 // A set of next states for each of 32 symbols, 3 places, 4 moves and 24 states.
 pub type TransitionTable = [u32; 9216];
@@ -67,7 +66,7 @@ fn add_step(table: &mut [u32], rule: Rule, place: Place)
 // Adds a rule's transition at each place of its scope.
 fn add_rule(table: &mut [u32], rule: Rule)
     requires { (length table.old ≡ 9216) × RuleFits rule }
-    ensures { Added (RuleBytes.Known rule) table.old table.new }
+    ensures { Added (Some rule) table.old table.new }
 {
     let scope = rule.scope;
     match scope {
@@ -85,7 +84,7 @@ fn add_rule_at(content: &[u8], header: Header, i: usize, table: &mut [u32])
     requires { (25 + 5 * i ≤ length content.now) × (header.states ≤ 24) × (header.symbols ≤ 32) × (length table.old ≡ 9216) }
     ensures { Added (rule_at header content.now i) table.old table.new }
 {
-    let RuleBytes::Known(rule) = automaton::rules::rule_at(content, header, i) else {
+    let Some(rule) = automaton::rules::rule_at(content, header, i) else {
         return;
     };
     add_rule(table, rule);
@@ -97,25 +96,19 @@ pub fn compile(content: &[u8], header: Header, table: &mut TransitionTable)
     ensures { Compiled (automaton_of header content.now) table.new }
 {
     let rules = header.rules as usize;
-    let mut i = 0;
-    while i < rules {
+    for i in 0..rules {
         add_rule_at(content, header, i, table);
-        i += 1;
     }
 }
 
 // Reads an automaton's file: its compiled transitions go to the table, which begins as zeros. A refused file leaves the table as it was.
-pub fn load(file: &[u8], table: &mut TransitionTable) -> Parsed
+pub fn load(file: &[u8], table: &mut TransitionTable) -> Result<Header, Refusal>
     requires { table.old ≡ replicate 9216 0 }
     ensures { (result ≡ parsed file.now) × Loaded result file.now table.old table.new }
 {
     let mut contents = [0u8; 3048];
-    match automaton::file::read(file, &mut contents) {
-        Parsed::Refused(refusal) => Parsed::Refused(refusal),
-        Parsed::Read(header) => {
-            let len = blocks::content_length(file);
-            compile(&contents[..len], header, table);
-            Parsed::Read(header)
-        }
-    }
+    let header = automaton::file::read(file, &mut contents)?;
+    let len = blocks::content_length(file);
+    compile(&contents[..len], header, table);
+    Ok(header)
 }

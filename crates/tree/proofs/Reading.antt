@@ -1,5 +1,6 @@
 -- What is known of a file that is read: its nodes, and the tree that they write.
 -- Assumes nothing.
+use Rattle.std.proofs.Common.{Ok, Err}
 use Prim.Native.Nat.{ℕ, ◌+◌, ◌≤◌}
 use native.Mathlib.Omega.{arith}
 use mathlib.Core.Path.{◌≡◌, refl}
@@ -8,16 +9,13 @@ use lib.ListN.{length, take, drop, length-drop}
 use lib.Seq.{length-take-le, take_at}
 use Rattle.blocks.specs.Blocks.{content}
 use Rattle.model.specs.declared.Signature.{Signature}
-use Rattle.refusal.specs.Checks.{◌and_then◌}
+use Rattle.refusal.specs.Checks.{◌and_then◌, Check}
 use Rattle.refusal.specs.Lines.{file_check, kind_check, count_check, size_check, filler_check}
-use Rattle.refusal.specs.declared.Check.{Check}
-use Rattle.refusal.specs.declared.Check.TheVariants.{Passed, Refused}
 use Rattle.refusal.proofs.Passed.{clash, both-passed, count-passed, size-passed}
 use Rattle.nodes.specs.Preorder.{Writes, Stands}
 use Rattle.nodes.specs.Nodes.{tree_of, nodes_check}
 use Rattle.tree.specs.File.{tree_format, count_of, nodes_of, layout_check, body_check, nodes_if, read_tree, nodes_after}
 use Rattle.nodes.proofs.Laws.{writes, read-stands}
-use Rattle.tree.specs.declared.file.ParsedTree.{ParsedTree}
 
 -- what contents have that lines 3 to 5 do not refuse: a number of nodes within its limits, and all the nodes
 pub record LaidOut (p : List ℕ) : Type 0 where
@@ -25,7 +23,7 @@ pub record LaidOut (p : List ℕ) : Type 0 where
   pub most : count_of p ≤ 4096
   pub nodes : 4 + count_of p ≤ length p
 
-pub layout-passed : (p : List ℕ) → layout_check p ≡ Passed → LaidOut p
+pub layout-passed : (p : List ℕ) → layout_check p ≡ Ok tt → LaidOut p
 unfolding layout_check
 layout-passed p e =
     let k = count_of p in
@@ -39,9 +37,9 @@ layout-passed p e =
 pub nodes-length : (k : ℕ) (p : List ℕ) → 4 + k ≤ length p → length (nodes_of k p) ≡ k
 nodes-length k p h = length-take-le k (drop 4 p) (simp length-drop (omega arith))
 
-parsed-passed : (c : Check) (k k' : ℕ) → nodes_if c k ≡ ParsedTree.Nodes k' → (c ≡ Passed) × (k ≡ k')
-parsed-passed Passed k k' e = (refl, cc)
-parsed-passed (Refused r) k k' e = clash (cc)
+parsed-passed : (c : Check) (k k' : ℕ) → nodes_if c k ≡ Ok k' → (c ≡ Ok tt) × (k ≡ k')
+parsed-passed (Ok tt) k k' e = (refl, cc)
+parsed-passed (Err r) k k' e = clash (cc)
 
 -- the k nodes of the file s are in the contents and write the tree that is read, which stands at the first of them
 pub record TreeRead (sg : Signature) (s : List ℕ) (k : ℕ) : Type 0 where
@@ -49,11 +47,11 @@ pub record TreeRead (sg : Signature) (s : List ℕ) (k : ℕ) : Type 0 where
   pub some : 1 ≤ k
   pub most : k ≤ 4096
   pub size : length (nodes_of k (content s)) ≡ k
-  pub passed : nodes_check sg (nodes_of k (content s)) ≡ Passed
+  pub passed : nodes_check sg (nodes_of k (content s)) ≡ Ok tt
   pub tree : Writes sg (nodes_of k (content s)) (tree_of sg.branches (nodes_of k (content s)))
   pub stands : Stands sg.branches (nodes_of k (content s)) 0 (tree_of sg.branches (nodes_of k (content s)))
 
-pub tree-read : (sg : Signature) (s : List ℕ) (k : ℕ) → read_tree sg s ≡ ParsedTree.Nodes k → TreeRead sg s k
+pub tree-read : (sg : Signature) (s : List ℕ) (k : ℕ) → read_tree sg s ≡ Ok k → TreeRead sg s k
 unfolding read_tree body_check
 tree-read sg s k e =
     let p = content s in
@@ -75,5 +73,5 @@ tree-read sg s k e =
 
 -- a buffer's first k bytes are then the nodes
 pub nodes-front : (sg : Signature) (s : List ℕ) (k : ℕ) (buffer : List ℕ) → TreeRead sg s k →
-    take k (nodes_after (ParsedTree.Nodes k) s buffer) ≡ nodes_of k (content s)
+    take k (nodes_after (Ok k) s buffer) ≡ nodes_of k (content s)
 nodes-front sg s k buffer h = take_at (nodes_of k (content s)) (drop k buffer) k h.size

@@ -1,5 +1,6 @@
 -- Why a file is unpacked: bytes that are joined to 0 are 0, line 6 then passes, and what passes lines 1 to 6 is read but for lines 10 to 12.
 -- Assumes nothing.
+use Rattle.std.proofs.Common.{Ok}
 use Prim.Native.Nat.{ℕ, zero, suc, ◌+◌, ◌/◌, ◌%◌, ◌^◌, ◌≤◌, ◌<◌}
 use native.Mathlib.Decide.{ℕ_discrete, dec_lt}
 use native.Mathlib.Nat.{div-eq_of_lt, lt_of_lt_of_le}
@@ -17,11 +18,9 @@ use Rattle.blocks.specs.Blocks.{content}
 use Rattle.blocks.proofs.Laws.{find-nothing}
 use Rattle.model.specs.declared.Signature.{Signature}
 use Rattle.refusal.specs.Lines.{file_check, must_be_zero, not_zero, filler_check}
-use Rattle.refusal.specs.declared.Check.TheVariants.{Passed}
 use Rattle.nodes.specs.Nodes.{nodes_check}
 use Rattle.tree.specs.File.{tree_format, count_of, nodes_of, layout_check, body_check, read_tree}
 use Rattle.tree.specs.Unpacked.{Clear, Unpacked}
-use Rattle.tree.specs.declared.file.ParsedTree.{ParsedTree}
 use Rattle.tree.proofs.Reading.{layout-passed, nodes-length}
 
 -- ---- bytes that are joined
@@ -72,7 +71,7 @@ module _ (p : List ℕ) (end : ℕ) (second : get_or p 1 0 ≡ 0) (rest : ZeroTo
       go (no l) (no m) = no_zero (must_be_zero (2 ^ 1) end j) (rest j (omega arith) hi)
       go (yes l) (no m) = rw (other-bit j m, lt-leb _ _ l)
 
-  pub clear-passes : filler_check tree_format end p ≡ Passed
+  pub clear-passes : filler_check tree_format end p ≡ Ok tt
   unfolding filler_check
   clear-passes = rw (find-nothing (not_zero (2 ^ 1) end p) 0 (length p) (λ j lo hi. none j (omega arith)))
 
@@ -84,25 +83,25 @@ front-nodes k p rest h =
     ap (take k) (drop-append-le 4 p rest (omega arith)) ∙ take-append-le k (drop 4 p) rest (simp length-drop (omega arith))
 
 -- lines 10 to 12 are all that is left
-nodes-left : (sg : Signature) (s : List ℕ) → file_check tree_format s ≡ Passed → layout_check (content s) ≡ Passed →
-    filler_check tree_format (4 + count_of (content s)) (content s) ≡ Passed → nodes_check sg (nodes_of (count_of (content s)) (content s)) ≡ Passed
-    → read_tree sg s ≡ ParsedTree.Nodes (count_of (content s))
+nodes-left : (sg : Signature) (s : List ℕ) → file_check tree_format s ≡ Ok tt → layout_check (content s) ≡ Ok tt →
+    filler_check tree_format (4 + count_of (content s)) (content s) ≡ Ok tt → nodes_check sg (nodes_of (count_of (content s)) (content s)) ≡ Ok tt
+    → read_tree sg s ≡ Ok (count_of (content s))
 unfolding read_tree body_check
 nodes-left sg s file layout filler nodes = rw (file, layout, filler, nodes)
 
-pub unpacked : (s : List ℕ) (k : ℕ) (buffer rest : List ℕ) → file_check tree_format s ≡ Passed → Clear (content s) k → 0 < k
+pub unpacked : (s : List ℕ) (k : ℕ) (buffer rest : List ℕ) → file_check tree_format s ≡ Ok tt → Clear (content s) k
     → buffer ≡ content s ++ rest → Unpacked s k buffer
-unpacked s k buffer rest file clear some joined =
+unpacked s k buffer rest file clear joined =
     let p = content s in
     let laid_out = layout-passed p clear.layout in
     let nodes : 4 + k ≤ length p = rw clear.count laid_out.nodes in
     record {
-      some = some;
+      some = rw clear.count laid_out.some;
       few = rw clear.count laid_out.most;
       size = rw joined (simp length-append (omega arith));
       nodes = rw joined (front-nodes k p rest nodes);
       length_is = nodes-length k p nodes;
       reads = λ sg passed.
           let same = ap (λ (m : ℕ). nodes_check sg (nodes_of m p)) (sym clear.count) in
-          nodes-left sg s file clear.layout clear.filler (same ∙ passed) ∙ ap ParsedTree.Nodes (sym clear.count);
+          nodes-left sg s file clear.layout clear.filler (same ∙ passed) ∙ ap Ok (sym clear.count);
     }

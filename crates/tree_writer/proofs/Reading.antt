@@ -1,5 +1,6 @@
 -- Reading the file of a node list gives the nodes; reading the file of a tree gives the tree.
 -- Assumes nothing.
+use Rattle.std.proofs.Common.{Ok}
 use Prim.Native.Nat.{ℕ, zero, suc, ◌+◌, ◌*◌, ◌/◌, ◌%◌, ◌^◌, ◌<◌, ◌≤◌}
 use native.Mathlib.Omega.{arith}
 use native.Mathlib.Nat.{div-eq_of_lt, lt_of_lt_of_le}
@@ -16,7 +17,6 @@ use Rattle.model.specs.Trees.{Tree, leaf, node, height, size}
 use Rattle.model.specs.Counting.{Over}
 use Rattle.model.specs.declared.Signature.{Signature}
 use Rattle.refusal.specs.Lines.{kind_check, count_check}
-use Rattle.refusal.specs.declared.Check.TheVariants.{Passed}
 use Rattle.refusal.proofs.Written.{Payload, written-passes}
 use Rattle.tree.specs.File.{tree_format, count_of, nodes_of, layout_check, body_check, nodes_if, read_tree}
 use Rattle.nodes.proofs.Laws.{nodes-pass}
@@ -24,7 +24,6 @@ use Rattle.nodes.specs.Nodes.{nodes_check}
 use Rattle.tree.specs.Payload.{payload_of, tree_file}
 use Rattle.nodes.specs.Preorder.{preorder, alphabet, Writes}
 use Rattle.nodes.proofs.Standing.{size-preorder}
-use Rattle.tree.specs.declared.file.ParsedTree.{ParsedTree}
 use Rattle.tree_writer.specs.ReadsBack.{ReadsBack}
 
 pub payload-length : (nodes : List ℕ) → length (payload_of nodes) ≡ 4 + length nodes
@@ -65,15 +64,15 @@ module _ (nodes : List ℕ) (least : 1 ≤ length nodes) (most : length nodes �
   unfolding joined payload_of
   nodes_are = rw (file-content (payload_of nodes)) (take_at nodes _ (length nodes) refl)
 
-  kind-passes : kind_check tree_format joined ≡ Passed
+  kind-passes : kind_check tree_format joined ≡ Ok tt
   unfolding kind_check payload_of
   kind-passes = rw (joined_at 0)
 
-  count-passes : count_check tree_format (length nodes) 1 4096 2 ≡ Passed
+  count-passes : count_check tree_format (length nodes) 1 4096 2 ≡ Ok tt
   unfolding count_check
   count-passes = rw (le-ltb (length nodes) 1 least, le-ltb 4096 (length nodes) most)
 
-  layout-passes : layout_check joined ≡ Passed
+  layout-passes : layout_check joined ≡ Ok tt
   unfolding layout_check joined
   layout-passes =
       rw (kind-passes, count-is, count-passes, ← payload-length nodes) (written-passes tree_format (payload_of nodes) payload).size
@@ -117,7 +116,7 @@ reads_back sg t over small low =
     let writes : Writes sg (preorder t) t = record { text = refl; over = over; low = low } in
     let pass = (nodes-pass sg (preorder t) t).1 writes in
     record {
-      read = nodes-read (preorder t) some most sg ∙ rw pass.0 (ap ParsedTree.Nodes n);
+      read = nodes-read (preorder t) some most sg ∙ rw pass.0 (ap Ok n);
       writes = rw back writes;
       tree = rw back pass.1;
     }

@@ -34,10 +34,8 @@ fn write_payload(nodes: &[u8], payload: &mut [u8]) -> usize
     ensures { (result ≡ length (payload_of nodes.now)) × (payload.new ≡ payload_of nodes.now ++ drop result payload.old) }
 {
     let len = 4 + nodes.len();
-    let mut i = 0;
-    while i < len {
+    for i in 0..len {
         payload[i] = payload_byte(nodes, i);
-        i += 1;
     }
     len
 }

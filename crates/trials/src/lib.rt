@@ -1,37 +1,37 @@
 // Plans, found by the survey or by chance, written as the files of letters, and the letters judged: whether both are what is expected, counted.
 #![tactic(auto)]
 
-use block_writer::Written;
 use emptiness::Survey;
 use enumerated::plan;
 use membership::Answer;
 use plans::Expected;
-use sampling::access::{byte, number};
+use refusal::Refusal;
+use sampling::access::{number, same_bytes};
 use sampling::random::draw;
 use sampling::report::{count, labelled, text};
 use sampling::rules::Automaton;
 use search::files;
 
-// A plan: its length, and where the survey found it the height told, else 99.
+// A plan: its length, and where the survey found it the height told.
 #[derive(Clone, Copy)]
 pub struct Made {
     pub length: usize,
-    pub height: usize,
+    pub height: Option<usize>,
 }
 
 // The plan that the survey finds, or one by chance.
 pub fn make_plan(random: &mut u64, a: Automaton, file: &[u8], buffer: &mut [u8]) -> Made {
     match emptiness::file::survey(file, buffer) {
-        Survey::Found { height, rows } => {
+        Ok(Survey::Found { height, rows }) => {
             Made {
                 length: rows % 128 * 3,
-                height,
+                height: Some(height),
             }
         }
         _ => {
             Made {
                 length: plans::by_chance(random, a, buffer),
-                height: 99,
+                height: None,
             }
         }
     }
@@ -41,48 +41,36 @@ pub fn make_plan(random: &mut u64, a: Automaton, file: &[u8], buffer: &mut [u8])
 pub fn count_height(counts: &mut [usize], height: usize) {
     if height < 7 {
         count(counts, 18 + height);
-    } else if height < 99 {
+    } else {
         count(counts, 25);
     }
 }
 
-// Whether the first n bytes of two buffers are the same.
-fn same_bytes(a: &[u8], b: &[u8], n: usize) -> bool {
-    for i in 0..n {
-        if byte(a, i) != byte(b, i) {
-            return false;
-        }
-    }
-    true
-}
-
-// How judging answers: 0 other, 1 accepted, 3 refused.
-fn judged(file: &[u8], letter: &[u8]) -> usize {
-    match judging::accepts(file, letter) {
-        Answer::Accepted => 1,
-        Answer::Other => 0,
-        Answer::Refused(_) => 3,
-    }
-}
-
 // Whether judging agrees with runs, where those can be searched; a plan that was found has to be accepted.
-fn judged_right(judged: usize, runs: usize, found: bool) -> bool {
-    if found && (judged != 1 || runs == 0) {
-        return false;
+fn judged_right(judged: Result<Answer, Refusal>, runs: usize, found: bool) -> bool {
+    match judged {
+        Ok(Answer::Accepted) => runs != 0,
+        Ok(Answer::Other) => !found && runs != 1,
+        Err(_) => false,
     }
-    runs == 2 && judged < 2 || runs == judged
 }
 
 // Whether the answer and the output afterwards are right, but for judging.
-fn right(answer: Written, e: Expected, out: &[u8], letter: &[u8], salt: usize) -> bool {
+fn right(
+    answer: Result<usize, Refusal>,
+    e: Expected,
+    out: &[u8],
+    letter: &[u8],
+    salt: usize,
+) -> bool {
     match answer {
-        Written::Refused(refusal) => {
+        Err(refusal) => {
             refusal.number == e.number
                 && refusal.file == e.file
                 && refusal.place == e.place
                 && plan::unchanged(out, 0, salt)
         }
-        Written::Bytes(n) => {
+        Ok(n) => {
             e.number == 0
                 && n == e.length
                 && same_bytes(out, letter, n)
@@ -92,7 +80,7 @@ fn right(answer: Written, e: Expected, out: &[u8], letter: &[u8], salt: usize) -
 }
 
 // Writes into the front of the output.
-fn write(file: &[u8], plan: &[u8], out: &mut [u8], room: usize) -> Written {
+fn write(file: &[u8], plan: &[u8], out: &mut [u8], room: usize) -> Result<usize, Refusal> {
     if room <= out.len() {
         witness::file::write(file, plan, &mut out[..room])
     } else {
@@ -100,11 +88,19 @@ fn write(file: &[u8], plan: &[u8], out: &mut [u8], room: usize) -> Written {
     }
 }
 
-// How an input came out: as expected or not, and how the letter was judged (2 where none was written).
+// Whether judging says that a letter is accepted.
+fn is_accepted(judged: Result<Answer, Refusal>) -> bool {
+    match judged {
+        Ok(Answer::Accepted) => true,
+        _ => false,
+    }
+}
+
+// How an input came out: as expected or not, and whether a letter was written that is accepted.
 #[derive(Clone, Copy)]
 struct Told {
     right: bool,
-    judged: usize,
+    accepted: bool,
 }
 
 // Has a plan written into an output that has the pattern, and the letter judged.
@@ -126,22 +122,22 @@ fn tried(
     if e.number != 0 || !good {
         return Told {
             right: good,
-            judged: 2,
+            accepted: false,
         };
     }
-    let judged = judged(file, files::front(&out, e.length));
+    let judged = judging::accepts(file, files::front(&out, e.length));
     let runs = plans::accepted(a, rules, plan);
     Told {
         right: judged_right(judged, runs, found),
-        judged,
+        accepted: is_accepted(judged),
     }
 }
 
 // Counts: six of each kind of input (from 0), heights found (from 18), differences (26).
-fn answer_at(e: Expected, judged: usize) -> usize {
+fn answer_at(e: Expected, accepted: bool) -> usize {
     let number = e.number;
     match number {
-        0 => { if judged == 1 { 0 } else { 1 } }
+        0 => { if accepted { 0 } else { 1 } }
         15 => 2,
         16 => 3,
         13 => 4,
@@ -151,7 +147,7 @@ fn answer_at(e: Expected, judged: usize) -> usize {
 
 // Counts an input's answer, and a difference, of which the first ten are written.
 fn tally(counts: &mut [usize], from: usize, k: usize, e: Expected, told: Told) {
-    count(counts, from % 18 + answer_at(e, told.judged) % 6);
+    count(counts, from % 18 + answer_at(e, told.accepted) % 6);
     if !told.right {
         if number(counts, 26) < 10 {
             labelled(b"difference at ", k);

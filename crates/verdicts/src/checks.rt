@@ -53,33 +53,33 @@ pub fn survey(
     rules: &[u8],
     list: List,
     classes: &[usize],
-    answer: Survey,
+    answer: Result<Survey, Refusal>,
     buffer: &[u8],
     salt: usize,
 ) -> bool {
     match answer {
-        Survey::Found { height: h, rows: n } => {
+        Ok(Survey::Found { height: h, rows: n }) => {
             found(list, classes, h, n)
                 && plan::builds(a, rules, buffer, h, n)
                 && plan::unchanged(buffer, n % 256 * 3, salt)
         }
-        Survey::Open(h) => open(list, classes, h) && plan::unchanged(buffer, 0, salt),
-        Survey::Empty(h) => empty(list, classes, h) && plan::unchanged(buffer, 0, salt),
-        Survey::Refused(_) => false,
+        Ok(Survey::Open(h)) => open(list, classes, h) && plan::unchanged(buffer, 0, salt),
+        Ok(Survey::Empty(h)) => empty(list, classes, h) && plan::unchanged(buffer, 0, salt),
+        Err(_) => false,
     }
 }
 
 // The quick check's answer to a file that reads, beside the survey's.
-pub fn quick(list: List, answer: Quick, beside: Survey) -> bool {
+pub fn quick(list: List, answer: Result<Quick, Refusal>, beside: Result<Survey, Refusal>) -> bool {
     match answer {
-        Quick::Clear => {
+        Ok(Quick::Clear) => {
             match beside {
-                Survey::Found { height: _, rows: _ } => false,
+                Ok(Survey::Found { height: _, rows: _ }) => false,
                 _ => list.first == lists::NONE,
             }
         }
-        Quick::Unsure => true,
-        Quick::Refused(_) => false,
+        Ok(Quick::Unsure) => true,
+        Err(_) => false,
     }
 }
 
@@ -88,17 +88,23 @@ fn same(a: Refusal, b: Refusal) -> bool {
 }
 
 // The survey's answer where a refusal is expected: that one, and the buffer as it was.
-pub fn survey_refused(answer: Survey, expected: Refusal, buffer: &[u8], salt: usize) -> bool {
+pub fn survey_refused(
+    answer: Result<Survey, Refusal>,
+    expected: Refusal,
+    buffer: &[u8],
+    salt: usize,
+) -> bool {
     match answer {
-        Survey::Refused(refusal) => same(refusal, expected) && plan::unchanged(buffer, 0, salt),
+        Err(refusal) => same(refusal, expected) && plan::unchanged(buffer, 0, salt),
         _ => false,
     }
 }
 
 // The quick check's answer to a damaged file; to any other it has to answer.
-pub fn quick_refused(answer: Quick, expected: Refusal) -> bool {
-    match answer {
-        Quick::Refused(refusal) => same(refusal, expected),
-        _ => expected.number == 0,
+pub fn quick_refused(answer: Result<Quick, Refusal>, expected: Option<Refusal>) -> bool {
+    match (answer, expected) {
+        (Err(refusal), Some(damage)) => same(refusal, damage),
+        (Ok(_), None) => true,
+        _ => false,
     }
 }

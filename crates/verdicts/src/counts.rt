@@ -1,19 +1,20 @@
 // How many answers there were of each kind, for each family of automata: counting, and writing. Counts: six of each family (from 0), heights
 // found (from 56), differences (64).
 use emptiness::{Quick, Survey};
+use refusal::Refusal;
 use sampling::access::number;
-use sampling::report::{count, labelled, text};
+use sampling::report::{count, labelled, row, text};
 
 // Writes the survey's answer.
-pub fn print_survey(answer: Survey) {
+pub fn print_survey(answer: Result<Survey, Refusal>) {
     match answer {
-        Survey::Found { height: h, rows: n } => {
+        Ok(Survey::Found { height: h, rows: n }) => {
             labelled(b"found height=", h);
             labelled(b" rows=", n);
         }
-        Survey::Open(h) => labelled(b"open height=", h),
-        Survey::Empty(h) => labelled(b"empty height=", h),
-        Survey::Refused(refusal) => {
+        Ok(Survey::Open(h)) => labelled(b"open height=", h),
+        Ok(Survey::Empty(h)) => labelled(b"empty height=", h),
+        Err(refusal) => {
             labelled(b"refused=", refusal.number as usize);
             labelled(b" file=", refusal.file as usize);
             labelled(b" place=", refusal.place);
@@ -21,10 +22,10 @@ pub fn print_survey(answer: Survey) {
     }
 }
 
-fn count_survey(counts: &mut [usize], from: usize, answer: Survey) {
+fn count_survey(counts: &mut [usize], from: usize, answer: Result<Survey, Refusal>) {
     let at = from % 64;
     match answer {
-        Survey::Found { height: h, rows: _ } => {
+        Ok(Survey::Found { height: h, rows: _ }) => {
             count(counts, at);
             if h < 7 {
                 count(counts, 56 + h);
@@ -32,23 +33,23 @@ fn count_survey(counts: &mut [usize], from: usize, answer: Survey) {
                 count(counts, 63);
             }
         }
-        Survey::Open(_) => count(counts, at + 1),
-        Survey::Empty(_) => count(counts, at + 2),
-        Survey::Refused(_) => count(counts, at + 5),
+        Ok(Survey::Open(_)) => count(counts, at + 1),
+        Ok(Survey::Empty(_)) => count(counts, at + 2),
+        Err(_) => count(counts, at + 5),
     }
 }
 
-fn count_quick(counts: &mut [usize], from: usize, answer: Quick) {
+fn count_quick(counts: &mut [usize], from: usize, answer: Result<Quick, Refusal>) {
     let at = from % 64;
     match answer {
-        Quick::Clear => count(counts, at + 3),
-        Quick::Unsure => count(counts, at + 4),
-        Quick::Refused(_) => {}
+        Ok(Quick::Clear) => count(counts, at + 3),
+        Ok(Quick::Unsure) => count(counts, at + 4),
+        Err(_) => {}
     }
 }
 
 // Counts a difference, and writes the first ten.
-pub fn differ(counts: &mut [usize], k: usize, answer: Survey) {
+pub fn differ(counts: &mut [usize], k: usize, answer: Result<Survey, Refusal>) {
     if number(counts, 64) < 10 {
         labelled(b"difference at ", k);
         text(b": ");
@@ -63,8 +64,8 @@ pub fn add(
     counts: &mut [usize],
     k: usize,
     family: usize,
-    answer: Survey,
-    quick: Quick,
+    answer: Result<Survey, Refusal>,
+    quick: Result<Quick, Refusal>,
     right: bool,
 ) {
     count_survey(counts, family % 9 * 6, answer);
@@ -101,9 +102,5 @@ pub fn print_families(counts: &[usize]) {
 
 // How many trees were found at each height, from 7 on together.
 pub fn print_heights(counts: &[usize]) {
-    text(b"found at heights 0 to 7:");
-    for h in 0..8usize {
-        labelled(b" ", number(counts, 56 + h));
-    }
-    text(b"\n");
+    row(b"found at heights 0 to 7:", counts, 56, 64);
 }

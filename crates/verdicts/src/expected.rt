@@ -3,11 +3,11 @@ use refusal::Refusal;
 use sampling::random::{chance, draw};
 use search::files;
 
-// What is expected: a refusal of the file, of the buffer, or, number 0, none.
+// What is expected: a refusal of the file, of the buffer, or none.
 #[derive(Clone, Copy)]
 pub struct Expected {
-    pub file: Refusal,
-    pub survey: Refusal,
+    pub file: Option<Refusal>,
+    pub survey: Option<Refusal>,
 }
 
 fn refused(number: u8, file: u8, place: usize) -> Refusal {
@@ -19,13 +19,13 @@ fn refused(number: u8, file: u8, place: usize) -> Refusal {
 }
 
 // Damages one byte of some files; the refusal that is expected then.
-pub fn damaged(random: &mut u64, file: &mut [u8], n: usize) -> Refusal {
+pub fn damaged(random: &mut u64, file: &mut [u8], n: usize) -> Option<Refusal> {
     if !chance(random, 1, 40) {
-        return refused(0, 0, 0);
+        return None;
     }
     let at = draw(random, n);
     files::damage(file, at, draw(random, 255));
-    refused(2, 0, at / 512)
+    Some(refused(2, 0, at / 512))
 }
 
 // The buffer's length: 195 at least, but in some cases too short, and in half of those with a damaged file.
@@ -42,9 +42,9 @@ pub fn room_of(random: &mut u64, is_damaged: bool) -> usize {
 }
 
 // What is expected of the survey and the quick check.
-pub fn of(file: Refusal, room: usize) -> Expected {
-    let survey = if file.number == 0 && room < 195 {
-        refused(13, 2, 195)
+pub fn of(file: Option<Refusal>, room: usize) -> Expected {
+    let survey = if file.is_none() && room < 195 {
+        Some(refused(13, 2, 195))
     } else {
         file
     };

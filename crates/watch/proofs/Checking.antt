@@ -1,5 +1,6 @@
 -- Refusals 20, 21, 22 and 13: the tests in turn, and what is known where they pass.
 -- Assumes nothing.
+use Rattle.std.proofs.Common.{Ok}
 use Prim.Native.Nat.{ℕ, ◌≤◌, ◌<◌}
 use mathlib.Core.Path.{◌≡◌, refl}
 use mathlib.Core.Bool.{Bool, true, false, not}
@@ -7,9 +8,7 @@ use lib.Count.{ones}
 use lib.Dec.{eqb, ltb}
 use borrow.Author.Tests.{eq-eqb, ne_eqb, lt-ltb, le-ltb, eqb-true, ltb-false, not-false}
 use Rattle.algorithms.specs.Automaton.{Automaton}
-use Rattle.refusal.specs.Checks.{refused, refuse_if, ◌and_then◌}
-use Rattle.refusal.specs.declared.Check.{Check}
-use Rattle.refusal.specs.declared.Check.TheVariants.{Passed}
+use Rattle.refusal.specs.Checks.{refused, refuse_if, ◌and_then◌, Check}
 use Rattle.refusal.specs.declared.Fault.{Fault}
 use Rattle.refusal.proofs.Passed.{clash, both-passed, if-passed}
 use Rattle.determinism.specs.Single.{single_if}
@@ -17,13 +16,13 @@ use Rattle.determinism.specs.declared.Singleness.{Singleness}
 use Rattle.watch.specs.Checks.{log_length, watch_check}
 
 -- what single tells, as a test
-pub told-single : (b : Bool) (r : Singleness) → r ≡ Singleness.Single → r ≡ single_if b → b ≡ true
-told-single true r f e = refl
-told-single false r f e = clash (cc)
+pub told-single : (b : Bool) {x : Singleness} → x ≡ Singleness.Single → x ≡ single_if b → b ≡ true
+told-single true f e = refl
+told-single false f e = clash (cc)
 
-pub told-other : (b : Bool) (r : Singleness) → ¬ (r ≡ Singleness.Single) → r ≡ single_if b → b ≡ false
-told-other true r n e = absurd (n e)
-told-other false r n e = refl
+pub told-multiple : (b : Bool) {x : Singleness} → x ≡ Singleness.Multiple → x ≡ single_if b → b ≡ false
+told-multiple true f e = clash (cc)
+told-multiple false f e = refl
 
 module _ (single : Bool) (A : Automaton) (budget room : ℕ) where
   pub check-multiple : single ≡ false → refused Fault.Single 2 0 ≡ watch_check single A budget room
@@ -45,7 +44,7 @@ module _ (single : Bool) (A : Automaton) (budget room : ℕ) where
         unfolding watch_check
         check-room l = rw (one, ← counted, eq-eqb starts 1 start, le-ltb 20000 budget low, lt-ltb room (log_length budget) l)
 
-        pub check-passes : log_length budget ≤ room → Passed ≡ watch_check single A budget room
+        pub check-passes : log_length budget ≤ room → Ok tt ≡ watch_check single A budget room
         unfolding watch_check
         check-passes l = rw (one, ← counted, eq-eqb starts 1 start, le-ltb 20000 budget low, le-ltb room (log_length budget) l)
 
@@ -56,7 +55,7 @@ module _ (single : Bool) (A : Automaton) (budget room : ℕ) where
     pub low : budget ≤ 20000
     pub enough : log_length budget ≤ room
 
-  pub checks-passed : watch_check single A budget room ≡ Passed → Unchecked
+  pub checks-passed : watch_check single A budget room ≡ Ok tt → Unchecked
   unfolding watch_check
   checks-passed e =
       let a : Check = refuse_if (not single) Fault.Single 2 0 in

@@ -1,5 +1,6 @@
 -- The configurations of a tree by node number and state, all of them in a list of nodes × states, and the step between them.
 -- Assumes nothing.
+use Rattle.std.proofs.Common.{Option, Some, None}
 use Prim.Native.Nat.{ℕ, zero, suc, ◌*◌, ◌<◌}
 use native.Mathlib.Nat.{suc-mul}
 use native.Mathlib.Decide.{ℕ_discrete}
@@ -15,8 +16,7 @@ use Rattle.model.proofs.ListLaws.{mem-count_from, of-count_from}
 use Rattle.algorithms.specs.Automaton.{Automaton, Proper}
 use Rattle.links.proofs.Numbering.{all_named}
 use Rattle.steps.specs.Successors.{successor}
-use Rattle.steps.specs.declared.Successor.{Successor}
-use Rattle.steps.specs.declared.Successor.TheVariants.{To, Nowhere}
+use Rattle.steps.specs.declared.Configuration.{Configuration}
 use Rattle.steps.proofs.Stepping.{into-state, into-node, step-led}
 use Rattle.watch.specs.Walk.{Entry}
 
@@ -80,9 +80,9 @@ entry-eq x y = go (ℕ_discrete x.0 y.0) (ℕ_discrete x.1 y.1)
 
 -- ---- the step; where there is none the configuration stays
 
-abbrev pub moved : Successor → Entry → Entry
-moved (To j q) e = (j, q.0)
-moved Nowhere e = e
+abbrev pub moved : Option Configuration → Entry → Entry
+moved (Some c) e = (c.node, c.state.0)
+moved None e = e
 
 unfoldable pub after : Automaton → Tree → Entry → Entry
 after A t e = moved (successor A t e.0 e.1) e
@@ -93,10 +93,10 @@ module _ (A : Automaton) (proper : Proper A) (t : Tree) where
   unfolding after
   closed e m = go (successor A t e.0 e.1) refl
     where
-      go : (x : Successor) → successor A t e.0 e.1 ≡ x → moved x e ∈ grid (size t) A.states
-      go Nowhere g = m
-      go (To j q) g =
+      go : (x : Option Configuration) → successor A t e.0 e.1 ≡ x → moved x e ∈ grid (size t) A.states
+      go None g = m
+      go (Some c) g =
           let inside = of-grid (size t) A.states m in
           let named = all_named t e.0 inside.0 in
-          let l = step-led A proper t named.2 e.1 j q.0 g in
-          mem-grid (size t) A.states j q.0 (into-node l) (into-state A proper l.step)
+          let l = step-led A proper t named.2 e.1 c.node c.state.0 g in
+          mem-grid (size t) A.states c.node c.state.0 (into-node l) (into-state A proper l.step)

@@ -1,5 +1,6 @@
 -- Following the run: what is left of the walk, with the log as it is, gives the whole walk. By what a turn of the loop has read.
 -- Assumes nothing.
+use Rattle.std.proofs.Common.{Option, Some, None}
 use Prim.Native.Nat.{ℕ, suc, ◌+◌, ◌-◌, ◌*◌, ◌≤◌, ◌<◌}
 use native.Mathlib.Omega.{arith}
 use mathlib.Core.Path.{◌≡◌, refl, sym, ap, ap₂, ◌∙◌}
@@ -8,7 +9,6 @@ use mathlib.Core.List.{List}
 use lib.Dec.{eqb}
 use lib.ListN.{length, get_or, length-set}
 use Rattle.relation.specs.Sets.{member}
-use Rattle.model.specs.declared.State.{State}
 use Rattle.model.specs.declared.Place.{Place}
 use Rattle.model.specs.Trees.{Tree, size}
 use Rattle.algorithms.specs.Automaton.{Automaton, Proper}
@@ -17,8 +17,7 @@ use Rattle.links.proofs.Numbering.{some-nodes, all_named}
 use Rattle.links.proofs.Tabling.{node-within, symbol-read, place_read}
 use Rattle.steps.specs.Choices.{decoded, choice_cell, choice}
 use Rattle.steps.specs.Successors.{to, goes, successor}
-use Rattle.steps.specs.declared.Successor.{Successor}
-use Rattle.steps.specs.declared.Successor.TheVariants.{To, Nowhere}
+use Rattle.steps.specs.declared.Configuration.{Configuration}
 use Rattle.steps.proofs.Stepping.{goes-read, into-state, into-node, step-led}
 use Rattle.watch.specs.Walk.{Walk, ends, passes, most_steps, walk_from, walk}
 use Rattle.watch.specs.Checks.{log_length}
@@ -106,7 +105,7 @@ module _ {accepting most start : ℕ} {s codes P R : List ℕ} (w : Walkable acc
   pass-read : (r : Bool) → (eqb i 0 && member accepting p) ≡ r → passes A i p ≡ r
   pass-read r e = rw w.accepting_is e
 
-  step-read : (y : Successor) → y ≡ goes P R i (decoded (get_or codes (choice_cell (get_or s i 0) (place_in P i) p) 0)) → successor A t i p ≡ y
+  step-read : (y : Option Configuration) → y ≡ goes P R i (decoded (get_or codes (choice_cell (get_or s i 0) (place_in P i) p) 0)) → successor A t i p ≡ y
   unfolding successor
   step-read y e =
       sym
@@ -120,30 +119,30 @@ module _ {accepting most start : ℕ} {s codes P R : List ℕ} (w : Walkable acc
     told-passed r f h =
         rw e (ended A t start budget before room log made i p g Watched.Passed (walk-passed A t (budget - made) made i p (pass-read true (sym f ∙ h))))
 
-    module _ (r : Bool) (f : r ≡ (eqb i 0 && member accepting p)) (h : r ≡ false) (y : Successor)
+    module _ (r : Bool) (f : r ≡ (eqb i 0 && member accepting p)) (h : r ≡ false) (y : Option Configuration)
         (n : y ≡ goes P R i (decoded (get_or codes (choice_cell (get_or s i 0) (place_in P i) p) 0))) where
       no-pass : passes A i p ≡ false
       no-pass = pass-read false (sym f ∙ h)
 
-      pub told-stuck : y ≡ Nowhere → Followed (walk A t start budget) before (Watched.Stuck made) after
+      pub told-stuck : y ≡ None → Followed (walk A t start budget) before (Watched.Stuck made) after
       told-stuck k =
           rw e (ended A t start budget before room log made i p g Watched.Stuck (walk-stuck A t (budget - made) made i p no-pass (step-read y n ∙ k)))
 
-      module _ (j : ℕ) (q : State) (k : y ≡ To j q) where
+      module _ (d : Configuration) (k : y ≡ Some d) where
         pub told-circling : made ≡ most → Followed (walk A t start budget) before (Watched.Circling made) after
         told-circling m =
             rw e
             (ended A t start budget before room log made i p g Watched.Circling
-            (walk-circling A t (budget - made) made i p no-pass j q.0 (step-read y n ∙ k) (m ∙ sym w.limit)))
+            (walk-circling A t (budget - made) made i p no-pass d.node d.state.0 (step-read y n ∙ k) (m ∙ sym w.limit)))
 
         module _ (m : made ≡ most → ⊥) where
           pub told-spent : made ≡ budget → Followed (walk A t start budget) before (Watched.Spent made) after
           told-spent z =
               rw e
               (ended A t start budget before room log made i p g Watched.Spent
-              (walk-spent A t (budget - made) made i p no-pass j q.0 (step-read y n ∙ k) (λ a. m (a ∙ w.limit)) (omega arith)))
+              (walk-spent A t (budget - made) made i p no-pass d.node d.state.0 (step-read y n ∙ k) (λ a. m (a ∙ w.limit)) (omega arith)))
 
-          pub told-on : (made ≡ budget → ⊥) → Going A t start budget before after (made + 1) j q.0
+          pub told-on : (made ≡ budget → ⊥) → Going A t start budget before after (made + 1) d.node d.state.0
           told-on z =
               rw e
-              (goes_on A t start budget before room log made i p g w.proper no-pass j q.0 (step-read y n ∙ k) (λ a. m (a ∙ w.limit)) z)
+              (goes_on A t start budget before room log made i p g w.proper no-pass d.node d.state.0 (step-read y n ∙ k) (λ a. m (a ∙ w.limit)) z)

@@ -1,5 +1,6 @@
 -- The answer and the log from the parts: of a node list, of a tree's file, of both files.
 -- Assumes nothing.
+use Rattle.std.proofs.Common.{Ok, Err}
 use Prim.Native.Nat.{ℕ}
 use mathlib.Core.Path.{◌≡◌, sym, ap, ap₂, ◌∙◌, subst}
 use mathlib.Core.Bool.{Bool}
@@ -10,18 +11,15 @@ use Rattle.model.specs.Trees.{Tree}
 use Rattle.model.specs.declared.Signature.{Signature}
 use Rattle.algorithms.specs.Automaton.{Automaton}
 use Rattle.blocks.specs.Blocks.{content}
-use Rattle.refusal.specs.declared.Check.TheVariants.{Passed, Refused}
 use Rattle.refusal.specs.declared.Refusal.{Refusal}
 use Rattle.automaton.specs.File.{WithinLimits, parsed}
 use Rattle.automaton.specs.declared.Header.{Header}
-use Rattle.automaton.specs.declared.file.Parsed.{Parsed}
 use Rattle.automaton.proofs.Passed.{file-limits}
 use Rattle.transitions.specs.Transitions.{automaton_of}
 use Rattle.determinism.specs.Determined.{determined}
 use Rattle.determinism.proofs.Determinism.{single-determined}
 use Rattle.nodes.specs.Nodes.{tree_of}
 use Rattle.tree.specs.File.{nodes_of, read_tree}
-use Rattle.tree.specs.declared.file.ParsedTree.{ParsedTree}
 use Rattle.tree.proofs.Reading.{TreeRead}
 use Rattle.overloops.specs.Ready.{Headed}
 use Rattle.membership.specs.Judged.{signature_of}
@@ -34,17 +32,17 @@ use Rattle.watch.specs.declared.Watched.{Watched}
 -- ---- of a node list
 
 module _ (single : Bool) (A : Automaton) (t : Tree) (budget : ℕ) (log : List ℕ) where
-  pub tree-refused : (r : Refusal) → watch_check single A budget (length log) ≡ Refused r
-      → outcome (Watched.Refused r) log ≡ watch_tree single A t budget log
+  pub tree-refused : (r : Refusal) → watch_check single A budget (length log) ≡ Err r
+      → outcome (Err r) log ≡ watch_tree single A t budget log
   unfolding watch_tree
   tree-refused r e = rw e
 
-  pub tree-walked : watch_check single A budget (length log) ≡ Passed → (initial : ℕ) → A.initial ≡ initial → (r : Watched) (after : List ℕ)
-      → Followed (walk A t (lowest_of initial) budget) log r after → outcome r after ≡ watch_tree single A t budget log
+  pub tree-walked : watch_check single A budget (length log) ≡ Ok tt → (initial : ℕ) → A.initial ≡ initial → (r : Watched) (after : List ℕ)
+      → Followed (walk A t (lowest_of initial) budget) log r after → outcome (Ok r) after ≡ watch_tree single A t budget log
   unfolding watch_tree
   tree-walked e initial i r after f =
       let g = subst (λ (x : ℕ). Followed (walk A t (lowest_of x) budget) log r after) (sym i) f in
-      rw e (ap₂ outcome g.answered g.log)
+      rw e (ap₂ outcome (ap Ok g.answered) g.log)
 
 -- ---- of a tree's file
 
@@ -68,11 +66,11 @@ module _ (A : Automaton) (h : Header) (table : List ℕ) (headed : Headed A h ta
       }
 
   module _ (budget : ℕ) (log : List ℕ) where
-    pub file-refused : (r : Refusal) → read_tree signature s ≡ ParsedTree.Refused r → outcome (Watched.Refused r) log ≡ watch_by (determined A) A s budget log
+    pub file-refused : (r : Refusal) → read_tree signature s ≡ Err r → outcome (Err r) log ≡ watch_by (determined A) A s budget log
     unfolding watch_by
     file-refused r e = rw (signature-is, e)
 
-    pub file-watched : (k : ℕ) → read_tree signature s ≡ ParsedTree.Nodes k
+    pub file-watched : (k : ℕ) → read_tree signature s ≡ Ok k
         → (o : Outcome) → o ≡ watch_tree (determined A) A (tree_of h.branches (nodes_of k (content s))) budget log → o ≡ watch_by (determined A) A s budget log
     unfolding watch_by
     file-watched k e o f =
@@ -81,12 +79,12 @@ module _ (A : Automaton) (h : Header) (table : List ℕ) (headed : Headed A h ta
 -- ---- of both files
 
 module _ (w s : List ℕ) (budget : ℕ) (log : List ℕ) where
-  pub both-refused : (r : Refusal) → parsed w ≡ Parsed.Refused r → outcome (Watched.Refused r) log ≡ watch_of w s budget log
+  pub both-refused : (r : Refusal) → parsed w ≡ Err r → outcome (Err r) log ≡ watch_of w s budget log
   unfolding watch_of
   both-refused r e = rw e
 
   -- single, by what is computed of the automaton
-  pub both_read : (h : Header) → parsed w ≡ Parsed.Read h → let A = automaton_of h (content w) in watch_of w s budget log ≡ watch_by (determined A) A s budget log
+  pub both_read : (h : Header) → parsed w ≡ Ok h → let A = automaton_of h (content w) in watch_of w s budget log ≡ watch_by (determined A) A s budget log
   unfolding watch_of
   both_read h e =
       let A = automaton_of h (content w) in

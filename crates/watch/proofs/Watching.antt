@@ -11,14 +11,12 @@ use Rattle.model.specs.declared.Place.TheVariants.{Root}
 use Rattle.model.specs.Trees.{Tree}
 use Rattle.model.specs.Runs.{Position, Config, Run, Deterministic}
 use Rattle.algorithms.specs.Automaton.{Automaton, In, Δ, Accepted, Proper}
-use Rattle.refusal.specs.declared.Refusal.{Refusal}
 use Rattle.refusal.proofs.Passed.{clash}
 use Rattle.links.specs.Numbers.{Numbered, first}
-use Rattle.watch.specs.Walk.{Entry, most_steps, walk_from, walk, bytes_of}
+use Rattle.watch.specs.Walk.{Entry, most_steps, walk, bytes_of}
 use Rattle.watch.specs.Watch.{log_after}
 use Rattle.watch.specs.Promise.{Passing, Halted, Logged, stands, steps, Stopped, passed, stuck, circling, spent}
 use Rattle.watch.specs.declared.Watched.{Watched}
-use Rattle.watch.proofs.Turns.{by-turns}
 use Rattle.watch.proofs.Logs.{bytes-length}
 use Rattle.watch.proofs.Ways.{Walked, walked, logged-run, halted-rejects, circling-rejects}
 
@@ -42,13 +40,6 @@ module _ {A : Automaton} {t : Tree} {budget : ℕ} {d : Config} where
   stood-short (stuck h k) e = clash (cc)
   stood-short (circling h k l) e = clash (cc)
   stood-short {n = n} (spent {n = m} h k l b) e = let same : n ≡ m = cc in (rw same l, same ∙ b)
-
--- a walk is not refused
-pub not-refused : (A : Automaton) (t : Tree) (left made i p : ℕ) (r : Refusal) → (walk_from A t left made i p).answer ≡ Watched.Refused r → ⊥
-not-refused A t =
-    by-turns A t (λ left made i p w. (r : Refusal) → w.answer ≡ Watched.Refused r → ⊥) (λ left made i p e r v. clash (cc))
-    (λ left made i p e n r v. clash (cc)) (λ left made i p j q e n m r v. clash (cc)) (λ made i p j q e n m r v. clash (cc))
-    (λ left made i p j q e n m later r v. later r v)
 
 module _ (A : Automaton) (proper : Proper A) (det : Deterministic (Δ A)) (t : Tree) (start : ℕ) (starts : In A.initial start)
     (only : (q : ℕ) → In A.initial q → q ≡ start) (budget : ℕ) where
@@ -91,7 +82,6 @@ module _ (A : Automaton) (proper : Proper A) (det : Deterministic (Δ A)) (t : T
       by (Watched.Stuck n) e a = absurd (stuck-rejected n e a)
       by (Watched.Circling n) e a = absurd (circling-rejected n e a)
       by (Watched.Spent n) e a = absurd (never-spent enough n e)
-      by (Watched.Refused r) e a = absurd (not-refused A t budget 0 0 start r e)
 
 -- ---- the log
 

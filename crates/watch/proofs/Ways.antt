@@ -1,5 +1,6 @@
 -- How a walk ends, in terms of runs: its entries are the configurations of a run, and the last of them has what the answer says.
 -- Assumes nothing.
+use Rattle.std.proofs.Common.{Option}
 use Prim.Native.Nat.{ℕ, zero, suc, ◌+◌, ◌≤◌, ◌<◌}
 use native.Mathlib.Omega.{arith}
 use mathlib.Core.Path.{◌≡◌, refl, sym, ap, ◌∙◌, subst}
@@ -19,7 +20,7 @@ use Rattle.links.specs.Numbers.{Numbered, first}
 use Rattle.links.proofs.Numbering.{number-unique}
 use Rattle.links.proofs.Linking.{named-once}
 use Rattle.steps.specs.Successors.{to, successor}
-use Rattle.steps.specs.declared.Successor.{Successor}
+use Rattle.steps.specs.declared.Configuration.{Configuration}
 use Rattle.steps.proofs.Stepping.{step-led, led-step, no_step}
 use Rattle.watch.specs.Walk.{Entry, Walk, passes, most_steps, walk_from}
 use Rattle.watch.specs.Promise.{steps_of, Passing, Halted, Moving, Logged, stands, steps, Stopped, passed, stuck, circling, spent}
@@ -131,7 +132,7 @@ module _ (A : Automaton) (t : Tree) where
           → (k : ℕ) → made + k ≤ most_steps A t → passes A (iterate (after A t) k (i, p)).0 (iterate (after A t) k (i, p)).1 ≡ false
       onward made i p j q e s later zero l = e
       onward made i p j q e s later (suc k) l =
-          subst (λ (x : Successor). passes A (iterate (after A t) k (moved x (i, p))).0 (iterate (after A t) k (moved x (i, p))).1 ≡ false) (sym s)
+          subst (λ (x : Option Configuration). passes A (iterate (after A t) k (moved x (i, p))).0 (iterate (after A t) k (moved x (i, p))).1 ≡ false) (sym s)
           (later k (omega arith))
 
   module _ (proper : Proper A) (det : Deterministic (Δ A)) where
@@ -147,7 +148,7 @@ module _ (A : Automaton) (t : Tree) where
           rest.1,
           rest.2,
           rest.3,
-          ap (λ (y : Successor). iterate (after A t) rest.0 (moved y (i, c.1))) s.3 ∙ rest.4,
+          ap (λ (y : Option Configuration). iterate (after A t) rest.0 (moved y (i, c.1))) s.3 ∙ rest.4,
         )
 
     pub circling-rejects : (budget start n : ℕ) → start < A.states → (walk_from A t budget 0 0 start).answer ≡ Watched.Circling n

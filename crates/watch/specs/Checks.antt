@@ -3,8 +3,7 @@
 use Rattle.std.specs.Prelude.{ℕ, ◌+◌, ◌*◌, Bool, not, eqb, ltb}
 use Rattle.std.specs.Int.Count.{ones}
 use Rattle.algorithms.specs.Automaton.{Automaton}
-use Rattle.refusal.specs.Checks.{refuse_if, ◌and_then◌}
-use Rattle.refusal.specs.declared.Check.{Check}
+use Rattle.refusal.specs.Checks.{refuse_if, ◌and_then◌, Check}
 use Rattle.refusal.specs.declared.Fault.{Fault}
 
 -- "3 × (budget + 1)"

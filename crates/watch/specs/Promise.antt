@@ -1,6 +1,6 @@
 -- What W7 says of an answer and of the log afterwards, in terms of runs. Definitions only; the quotations are of document 02, W7.
 -- Interface: `steps_of`, `Passing`, `Halted`, `Moving`, `Logged`, `Stopped`, `Watches`, `Promise`.
-use Rattle.std.specs.Prelude.{◌≡◌, List, [], ◌∷◌, ℕ, ◌+◌, ◌≤◌, ◌<◌, length}
+use Rattle.std.specs.Prelude.{◌≡◌, List, [], ◌∷◌, ℕ, ◌+◌, ◌≤◌, ◌<◌, length, Ok, Err}
 use Rattle.model.specs.declared.Place.TheVariants.{Root}
 use Rattle.model.specs.Trees.{Tree}
 use Rattle.model.specs.Runs.{Position, Config, Step, Deterministic}
@@ -9,12 +9,10 @@ use Rattle.blocks.specs.Blocks.{content}
 use Rattle.refusal.specs.declared.Refusal.{Refusal}
 use Rattle.automaton.specs.File.{parsed}
 use Rattle.automaton.specs.declared.Header.{Header}
-use Rattle.automaton.specs.declared.file.Parsed.{Parsed}
 use Rattle.transitions.specs.Transitions.{automaton_of}
 use Rattle.nodes.specs.Preorder.{Writes}
 use Rattle.links.specs.Numbers.{Numbered}
 use Rattle.tree.specs.File.{nodes_of, read_tree}
-use Rattle.tree.specs.declared.file.ParsedTree.{ParsedTree}
 use Rattle.membership.specs.Judged.{signature_of}
 use Rattle.watch.specs.Walk.{Entry, most_steps}
 use Rattle.watch.specs.Checks.{log_length}
@@ -27,7 +25,6 @@ steps_of (Watched.Passed n) = n
 steps_of (Watched.Stuck n) = n
 steps_of (Watched.Circling n) = n
 steps_of (Watched.Spent n) = n
-steps_of (Watched.Refused r) = 0
 
 module _ (A : Automaton) (t : Tree) where
   -- "at the root in a final state"
@@ -59,8 +56,8 @@ module _ (A : Automaton) (t : Tree) where
     -- "Spent if they equal the budget": never with a budget of nodes × states or more
     spent : {n : ℕ} → ¬ Passing d → Moving d → n < most_steps A t → n ≡ budget → Stopped budget d (Watched.Spent n)
 
-  -- of a call that is not refused
-  pub record Watches (budget : ℕ) (before : List ℕ) (o : Outcome) : Type 0 where
+  -- of a call that is not refused: its answer, and the log afterwards
+  pub record Watches (budget : ℕ) (before : List ℕ) (answer : Watched) (after : List ℕ) : Type 0 where
     -- "one start state"
     pub start : ℕ
     pub starts : In A.initial start
@@ -69,24 +66,24 @@ module _ (A : Automaton) (t : Tree) where
     pub entries : List Entry
     pub last : Config
     pub run : Logged ([], start) entries last
-    pub made : length entries ≡ steps_of o.answer + 1
+    pub made : length entries ≡ steps_of answer + 1
     -- "bytes after the log are unchanged"
-    pub log : o.log ≡ log_after entries before
-    pub stopped : Stopped budget last o.answer
+    pub log : after ≡ log_after entries before
+    pub stopped : Stopped budget last answer
     -- "Passed implies the letter is accepted; Stuck and Circling imply it isn't"
-    pub passed : (n : ℕ) → o.answer ≡ Watched.Passed n → Accepted A t
-    pub stuck : (n : ℕ) → o.answer ≡ Watched.Stuck n → ¬ Accepted A t
-    pub circling : (n : ℕ) → o.answer ≡ Watched.Circling n → ¬ Accepted A t
+    pub passed : (n : ℕ) → answer ≡ Watched.Passed n → Accepted A t
+    pub stuck : (n : ℕ) → answer ≡ Watched.Stuck n → ¬ Accepted A t
+    pub circling : (n : ℕ) → answer ≡ Watched.Circling n → ¬ Accepted A t
 
 -- of an automaton's file w, a tree's file s, the budget, the log before, and the answer with the log afterwards
 pub record Promise (w s : List ℕ) (budget : ℕ) (before : List ℕ) (o : Outcome) : Type 0 where
   -- "a refused call leaves every lent byte as it was" (W1)
-  pub kept : (r : Refusal) → o.answer ≡ Watched.Refused r → o.log ≡ before
+  pub kept : (r : Refusal) → o.answer ≡ Err r → o.log ≡ before
   -- both files were read, and the list of k nodes writes the tree t: the run is followed, unless the call is refused ..
-  pub watches : (h : Header) (k : ℕ) (t : Tree) → parsed w ≡ Parsed.Read h → let A = automaton_of h (content w) in
-      read_tree (signature_of A) s ≡ ParsedTree.Nodes k → Writes (signature_of A) (nodes_of k (content s)) t
-      → ((r : Refusal) → ¬ (o.answer ≡ Watched.Refused r)) → Watches A t budget before o
+  pub watches : (h : Header) (k : ℕ) (t : Tree) → parsed w ≡ Ok h → let A = automaton_of h (content w) in
+      read_tree (signature_of A) s ≡ Ok k → Writes (signature_of A) (nodes_of k (content s)) t
+      → (x : Watched) → o.answer ≡ Ok x → Watches A t budget before x o.log
   -- .. which it is not "for a single walker with one start state" and a budget and a log within the limits
-  pub follows : (h : Header) (k : ℕ) (start : ℕ) → parsed w ≡ Parsed.Read h → let A = automaton_of h (content w) in
-      read_tree (signature_of A) s ≡ ParsedTree.Nodes k → Deterministic (Δ A) → In A.initial start → ((q : ℕ) → In A.initial q → q ≡ start)
-      → budget ≤ 20000 → log_length budget ≤ length before → (r : Refusal) → ¬ (o.answer ≡ Watched.Refused r)
+  pub follows : (h : Header) (k : ℕ) (start : ℕ) → parsed w ≡ Ok h → let A = automaton_of h (content w) in
+      read_tree (signature_of A) s ≡ Ok k → Deterministic (Δ A) → In A.initial start → ((q : ℕ) → In A.initial q → q ≡ start)
+      → budget ≤ 20000 → log_length budget ≤ length before → (r : Refusal) → ¬ (o.answer ≡ Err r)

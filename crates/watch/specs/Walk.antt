@@ -1,12 +1,11 @@
 -- The walk of a single automaton on a tree, from the root in a start state, and its log. The quotations are of document 02, W7.
 -- Interface: `Entry`, `Walk`, `passes`, `most_steps`, `in_order`, `walk_from`, `walk`, `bytes_of`.
-use Rattle.std.specs.Prelude.{ℕ, zero, suc, ◌+◌, ◌*◌, ◌/◌, ◌%◌, Bool, true, false, ◌&&◌, List, [], ◌∷◌, eqb}
+use Rattle.std.specs.Prelude.{ℕ, zero, suc, ◌+◌, ◌*◌, ◌/◌, ◌%◌, Bool, true, false, ◌&&◌, List, [], ◌∷◌, Option, None, Some, eqb}
 use Rattle.relation.specs.Sets.{member}
 use Rattle.model.specs.Trees.{Tree, size}
 use Rattle.algorithms.specs.Automaton.{Automaton}
 use Rattle.steps.specs.Successors.{successor}
-use Rattle.steps.specs.declared.Successor.{Successor}
-use Rattle.steps.specs.declared.Successor.TheVariants.{To, Nowhere}
+use Rattle.steps.specs.declared.Configuration.{Configuration}
 use Rattle.watch.specs.declared.Watched.{Watched}
 
 -- a configuration by the number of its node: "log each position as .. node, .. then state"
@@ -36,11 +35,11 @@ most_steps A t = size t * A.states
 
 -- "Before each step, in this order: Passed at the root in a final state; Stuck if no rule applies; Circling if the steps made equal nodes ×
 -- states"; else what is left of the budget decides
-abbrev pub in_order : (passed : Bool) → Successor → (circled : Bool) → (ended : (ℕ → Watched) → Walk) → (onward : ℕ → ℕ → Walk) → Walk
+abbrev pub in_order : (passed : Bool) → Option Configuration → (circled : Bool) → (ended : (ℕ → Watched) → Walk) → (onward : ℕ → ℕ → Walk) → Walk
 in_order true next circled ended onward = ended Watched.Passed
-in_order false Nowhere circled ended onward = ended Watched.Stuck
-in_order false (To j q) true ended onward = ended Watched.Circling
-in_order false (To j q) false ended onward = onward j q.0
+in_order false None circled ended onward = ended Watched.Stuck
+in_order false (Some c) true ended onward = ended Watched.Circling
+in_order false (Some c) false ended onward = onward c.node c.state.0
 
 -- at node i in state p, after `made` steps, with so many of the budget left: "Spent if they equal the budget"
 unfoldable pub walk_from : Automaton → Tree → (left made i p : ℕ) → Walk

@@ -7,7 +7,7 @@ ghost use Rattle.watch.specs.Following.{put_entry, Walkable, Followed};
 
 use crate::Watched;
 use model::State;
-use steps::{ChoiceTable, Successor, step};
+use steps::{ChoiceTable, Configuration, step};
 
 // Writes entry k of a log: the node, low byte first, then the state.
 fn put_entry(log: &mut [u8], k: usize, node: usize, state: State)
@@ -26,10 +26,7 @@ fn put_entry(log: &mut [u8], k: usize, node: usize, state: State)
 fn is_passing(node: usize, state: State, accepting: u32) -> bool
     ensures { result ≡ (eqb node 0 && member accepting state.0) }
 {
-    if node != 0 {
-        return false;
-    }
-    relation::set::contains(accepting, state.0)
+    node == 0 && relation::set::contains(accepting, state.0)
 }
 
 // Follows the run from the root in a state until it passes, is stuck, goes round or has spent the budget. `most` is nodes × states.
@@ -49,15 +46,17 @@ pub fn follow(
     ensures { (w : Walkable accepting most start.0 nodes.now choices.now parents.now rights.now)
         → Followed (walk w.automaton w.tree start.0 budget) log.old result log.new }
 {
-    let mut node: usize = 0;
-    let mut state = start;
+    let mut at = Configuration {
+        node: 0,
+        state: start,
+    };
     let mut made: usize = 0;
     loop {
-        put_entry(log, made, node, state);
-        if is_passing(node, state, accepting) {
+        put_entry(log, made, at.node, at.state);
+        if is_passing(at.node, at.state, accepting) {
             return Watched::Passed(made);
         }
-        let Successor::To(next, into) = step(nodes, choices, parents, rights, node, state) else {
+        let Some(next) = step(nodes, choices, parents, rights, at) else {
             return Watched::Stuck(made);
         };
         if made == most {
@@ -66,8 +65,7 @@ pub fn follow(
         if made == budget {
             return Watched::Spent(made);
         }
-        node = next;
-        state = into;
+        at = next;
         made += 1;
     }
 }

@@ -18,27 +18,30 @@ ghost use Rattle.watch.specs.Following.{Followed, Held};
 
 use crate::follow::follow;
 use automaton::Header;
-use automaton::file::Parsed;
 use determinism::{Singleness, single_prepared};
 use links::link;
 use model::{Signature, State};
-use refusal::{Check, Fault, Refusal, refused};
+use refusal::{Fault, Refusal, refused};
 use steps::{choose, lowest};
 use transitions::TransitionTable;
-use tree::file::{ParsedTree, read_tree};
+use tree::file::read_tree;
 
-// How the run ended, with the steps made; or a refusal.
+// How the run ended, with the steps made.
 #[derive(Clone, Copy)]
 pub enum Watched {
     Passed(usize),
     Stuck(usize),
     Circling(usize),
     Spent(usize),
-    Refused(Refusal),
 }
 
 // Refusals 20, 21, 22 and 13, of an automaton by its header and compiled transitions.
-fn watch_check(header: Header, table: &TransitionTable, budget: usize, room: usize) -> Check
+fn watch_check(
+    header: Header,
+    table: &TransitionTable,
+    budget: usize,
+    room: usize,
+) -> Result<(), Refusal>
     requires { WithinLimits header }
     ensures { (A : Automaton) → Headed A header table.now → result ≡ watch_check (determined A) A budget room }
 {
@@ -55,7 +58,7 @@ fn watch_check(header: Header, table: &TransitionTable, budget: usize, room: usi
     if room < 3 * (budget + 1) {
         return refused(Fault::Buffer, 2, 3 * (budget + 1));
     }
-    Check::Passed
+    Ok(())
 }
 
 // Follows the run on the tree of a node list from a start state.
@@ -90,15 +93,13 @@ fn watch_nodes(
     nodes: &[u8],
     budget: usize,
     log: &mut [u8],
-) -> Watched
+) -> Result<Watched, Refusal>
     requires { Held header table.now nodes.now }
     ensures { (w : Held header table.now nodes.now)
         → outcome result log.new ≡ watch_tree (determined w.automaton) w.automaton w.tree budget log.old }
 {
-    if let Check::Refused(refusal) = watch_check(header, table, budget, log.len()) {
-        return Watched::Refused(refusal);
-    }
-    walk_nodes(header, table, nodes, budget, log)
+    watch_check(header, table, budget, log.len())?;
+    Ok(walk_nodes(header, table, nodes, budget, log))
 }
 
 // The same on a tree's file.
@@ -108,31 +109,29 @@ fn watch_file(
     file: &[u8],
     budget: usize,
     log: &mut [u8],
-) -> Watched
+) -> Result<Watched, Refusal>
     requires { WithinLimits header × ((A : Automaton) × Headed A header table.now) }
     ensures { (A : Automaton) → Headed A header table.now
         → outcome result log.new ≡ watch_by (determined A) A file.now budget log.old }
 {
     let mut nodes = [0u8; 4096];
-    let signature = Signature {
-        symbols: header.symbols,
-        branches: header.branches,
-    };
-    match read_tree(file, signature, &mut nodes) {
-        ParsedTree::Refused(refusal) => Watched::Refused(refusal),
-        ParsedTree::Nodes(k) => watch_nodes(header, table, &nodes[..k], budget, log),
-    }
+    let signature = Signature::from(header);
+    let k = read_tree(file, signature, &mut nodes)?;
+    watch_nodes(header, table, &nodes[..k], budget, log)
 }
 
 // Watches an automaton's file step on a tree's file, for at most so many steps. An entry for each configuration goes to the front of the log: the
 // node, low byte first, then the state.
-pub fn watch(automaton: &[u8], tree: &[u8], budget: usize, log: &mut [u8]) -> Watched
+pub fn watch(
+    automaton: &[u8],
+    tree: &[u8],
+    budget: usize,
+    log: &mut [u8],
+) -> Result<Watched, Refusal>
     ensures equals { outcome result log.new ≡ watch_of automaton.now tree.now budget log.old }
     ensures right { Promise automaton.now tree.now budget log.old (outcome result log.new) }
 {
     let mut table = [0u32; 9216];
-    match transitions::load(automaton, &mut table) {
-        Parsed::Refused(refusal) => Watched::Refused(refusal),
-        Parsed::Read(header) => watch_file(header, &table, tree, budget, log),
-    }
+    let header = transitions::load(automaton, &mut table)?;
+    watch_file(header, &table, tree, budget, log)
 }

@@ -1,24 +1,17 @@
 // The engine's answer, in the terms of the reading that followed the run.
 use followed::answer::Expected;
 use followed::{answer, follow};
+use refusal::Refusal;
 use watch::Watched;
 use watch_trials::lent::lower;
 
-pub fn same(a: Expected, b: Expected) -> bool {
-    a.kind == b.kind
-        && a.steps == b.steps
-        && a.number == b.number
-        && a.file == b.file
-        && a.place == b.place
-}
-
-fn as_expected(answer: Watched) -> Expected {
+fn as_expected(answer: Result<Watched, Refusal>) -> Expected {
     match answer {
-        Watched::Passed(steps) => answer::ended(follow::PASSED, steps),
-        Watched::Stuck(steps) => answer::ended(follow::STUCK, steps),
-        Watched::Circling(steps) => answer::ended(follow::CIRCLING, steps),
-        Watched::Spent(steps) => answer::ended(follow::SPENT, steps),
-        Watched::Refused(refusal) => {
+        Ok(Watched::Passed(steps)) => answer::ended(follow::PASSED, steps),
+        Ok(Watched::Stuck(steps)) => answer::ended(follow::STUCK, steps),
+        Ok(Watched::Circling(steps)) => answer::ended(follow::CIRCLING, steps),
+        Ok(Watched::Spent(steps)) => answer::ended(follow::SPENT, steps),
+        Err(refusal) => {
             answer::refused(
                 refusal.number as usize,
                 refusal.file as usize,

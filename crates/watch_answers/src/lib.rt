@@ -5,6 +5,7 @@ mod engine;
 
 use followed::answer::{Expected, Question};
 use followed::{answer, limits};
+use sampling::access::same_bytes;
 use sampling::rules::Automaton;
 use watch_trials::counts::{DIFFERENCES, count_if};
 use watch_trials::{counts, lent};
@@ -30,7 +31,7 @@ pub fn compare_answers(
     let mut right = log;
     let expected = answer::expected_of(a, records, nodes, size, q, &mut right);
     let found = engine::answer(automaton, tree, q.budget, &mut log, q.room);
-    let same = engine::same(found, expected) && lent::same_bytes(&log, &right, n);
+    let same = found == expected && same_bytes(&log, &right, n);
     counts::count_answer(counts, k / PAIRS, expected);
     count_if(counts, DIFFERENCES, !same);
     found

@@ -4,70 +4,22 @@
 // tools/make_watch_cases.py makes them.
 #![tactic(auto)]
 
-ghost use Rattle.std.specs.Prelude.{◌+◌, ◌<◌, ◌≤◌, length};
-
 use refusal::Refusal;
+use telling::{fill, mix, number, pair_at, print_refusal, read_below, read_front};
 use watch::Watched;
 
-fn number(label: &[u8], n: u64) {
-    io::write_all(1, label);
-    io::print_decimal(1, n);
-}
-
-fn print_refusal(refusal: Refusal) {
-    number(b" refused=", refusal.number as u64);
-    number(b" file=", refusal.file as u64);
-    number(b" place=", refusal.place as u64);
-}
-
-fn print_watched(watched: Watched) {
+fn print_watched(watched: Result<Watched, Refusal>) {
     match watched {
-        Watched::Passed(steps) => number(b" passed=", steps as u64),
-        Watched::Stuck(steps) => number(b" stuck=", steps as u64),
-        Watched::Circling(steps) => number(b" circling=", steps as u64),
-        Watched::Spent(steps) => number(b" spent=", steps as u64),
-        Watched::Refused(refusal) => print_refusal(refusal),
+        Ok(Watched::Passed(steps)) => number(b" passed=", steps as u64),
+        Ok(Watched::Stuck(steps)) => number(b" stuck=", steps as u64),
+        Ok(Watched::Circling(steps)) => number(b" circling=", steps as u64),
+        Ok(Watched::Spent(steps)) => number(b" spent=", steps as u64),
+        Err(refusal) => print_refusal(refusal),
     }
-}
-
-// Fills the first n bytes of a buffer from the input; false where either is shorter.
-fn read_front(buffer: &mut [u8], n: usize) -> bool {
-    if buffer.len() < n {
-        return false;
-    }
-    io::read_full(0, &mut buffer[..n]) == n
-}
-
-fn pair_at(bytes: &[u8], at: usize) -> usize
-    requires { at + 2 ≤ length bytes.now }
-{
-    blocks::half_at(bytes, at) as usize
 }
 
 fn budget_of(head: &[u8; 15]) -> usize {
     (blocks::word_at(head, 7) as usize) + 4294967296 * (blocks::word_at(head, 11) as usize)
-}
-
-// A pattern, by which a byte that is written, or moved, is seen.
-fn fill(bytes: &mut [u8]) {
-    for i in 0..bytes.len() {
-        bytes[i] = (i % 251) as u8;
-    }
-}
-
-fn mixed(sum: u64, b: u8) -> u64
-    ensures { result < 1000003 }
-{
-    ((sum % 1000003) * 257 + (b as u64)) % 1000003
-}
-
-// A number that depends on each byte and its place.
-fn mix(bytes: &[u8]) -> u64 {
-    let mut sum = 1u64;
-    for i in 0..bytes.len() {
-        sum = mixed(sum, bytes[i]);
-    }
-    sum
 }
 
 // Logs the walk in the front of a buffer.
@@ -77,7 +29,7 @@ fn log_walk(
     budget: usize,
     buffer: &mut [u8],
     room: usize,
-) -> Watched {
+) -> Result<Watched, Refusal> {
     if room <= buffer.len() {
         watch::watch(automaton, tree, budget, &mut buffer[..room])
     } else {
@@ -90,14 +42,6 @@ fn print_walk(automaton: &[u8], tree: &[u8], budget: usize, room: usize) {
     fill(&mut buffer);
     print_watched(log_walk(automaton, tree, budget, &mut buffer, room));
     number(b" mix=", mix(blocks::front(&buffer, room)));
-}
-
-// Reads the file into the buffer, unless it is the one of the case before; false where the input ends before it does.
-fn read_file(file: &mut [u8], length: usize) -> bool {
-    if length < 32768 {
-        return read_front(file, length);
-    }
-    true
 }
 
 // Writes the line of a case whose label and files are read.
@@ -124,10 +68,10 @@ fn one_case(automaton: &mut [u8], tree: &mut [u8]) -> bool {
     if !read_front(&mut label, n) {
         return false;
     }
-    if !read_file(automaton, pair_at(&head, 1)) {
+    if !read_below(automaton, pair_at(&head, 1), 32768) {
         return false;
     }
-    if !read_file(tree, pair_at(&head, 3)) {
+    if !read_below(tree, pair_at(&head, 3), 32768) {
         return false;
     }
     print_line(blocks::front(&label, n), &head, automaton, tree);

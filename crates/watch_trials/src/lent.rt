@@ -28,13 +28,3 @@ pub fn fill(log: &mut [u8], n: usize, salt: usize) {
         log[i] = mark(i, salt);
     }
 }
-
-// Whether two logs have the same first bytes.
-pub fn same_bytes(a: &[u8], b: &[u8], n: usize) -> bool {
-    for i in 0..lower(n, lower(a.len(), b.len())) {
-        if a[i] != b[i] {
-            return false;
-        }
-    }
-    true
-}

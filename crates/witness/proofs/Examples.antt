@@ -1,5 +1,6 @@
 -- Plans over the symbols 0, 1 (leaves) and 2 (a branch), by computing.
 -- Assumes nothing.
+use Rattle.std.proofs.Common.{Ok}
 use mathlib.Core.Path.{◌≡◌, refl}
 use mathlib.Core.List.{List, [], ◌∷◌}
 use Prim.Native.Nat.{ℕ}
@@ -9,7 +10,6 @@ use Rattle.model.specs.Trees.{leaf, node}
 use Rattle.model.specs.declared.Signature.{Signature}
 use Rattle.refusal.specs.Checks.{refused}
 use Rattle.refusal.specs.declared.Fault.{Fault}
-use Rattle.refusal.specs.declared.Check.TheVariants.{Passed}
 use Rattle.nodes.specs.Preorder.{preorder}
 use Rattle.witness.specs.Plan.{tree_within, row_tree, plan_tree, length_wrong, parts_wrong, row_wrong, plan_check}
 
@@ -31,7 +31,7 @@ shared-nodes : preorder (plan_tree shared) ≡ 2 ∷ 2 ∷ 0 ∷ 0 ∷ 2 ∷ 0 �
 unfolding row_tree tree_within preorder
 shared-nodes = refl
 
-passes : plan_check sg plan ≡ Passed
+passes : plan_check sg plan ≡ Ok tt
 unfolding plan_check length_wrong row_wrong parts_wrong lowest_from member
 passes = refl
 

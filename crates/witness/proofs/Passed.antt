@@ -1,5 +1,6 @@
 -- What is known of a plan that 15 passes: its rows, and the tree that each builds.
 -- Assumes nothing.
+use Rattle.std.proofs.Common.{Ok}
 use Prim.Native.Nat.{ℕ, zero, suc, ◌*◌, ◌/◌, ◌%◌, ◌<◌, ◌≤◌}
 use native.Mathlib.Omega.{arith}
 use mathlib.Core.Path.{◌≡◌, sym, ◌∙◌}
@@ -13,7 +14,6 @@ use Rattle.blocks.proofs.Laws.{lowest-nothing}
 use Rattle.relation.specs.Sets.{member}
 use Rattle.model.specs.Trees.{leaf, node}
 use Rattle.model.specs.declared.Signature.{Signature}
-use Rattle.refusal.specs.declared.Check.TheVariants.{Passed}
 use Rattle.refusal.specs.Checks.{refuse_if, refuse_at}
 use Rattle.refusal.specs.declared.Fault.{Fault}
 use Rattle.refusal.proofs.Passed.{both-passed, if-passed, at-passed, or-is-false}
@@ -54,7 +54,7 @@ length-right n e =
     let most = ltb-false 195 n u.1 in
     record { some = omega arith; few = omega arith; whole = omega arith }
 
-pub plan-passed : (sg : Signature) (p : List ℕ) → plan_check sg p ≡ Passed → PlanPassed sg p
+pub plan-passed : (sg : Signature) (p : List ℕ) → plan_check sg p ≡ Ok tt → PlanPassed sg p
 unfolding plan_check
 plan-passed sg p e =
     let both = both-passed (refuse_if (length_wrong (length p)) Fault.Plan 2 0) (refuse_at Fault.Plan 2 (lowest (row_wrong sg p) (rows_in p))) e in

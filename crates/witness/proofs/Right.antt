@@ -1,5 +1,6 @@
 -- Document 02's promises of W1 hold of what is written.
 -- Assumes nothing.
+use Rattle.std.proofs.Common.{Result, Ok, Err}
 use Prim.Native.Nat.{ℕ, ◌*◌, ◌%◌, ◌<◌, ◌≤◌}
 use native.Mathlib.Omega.{arith}
 use mathlib.Core.Path.{◌≡◌, refl, sym, ap, subst, ◌∙◌}
@@ -26,12 +27,10 @@ use Rattle.algorithms.proofs.Recognized.{recognizes}
 use Rattle.algorithms.proofs.Theorems.{demand-3, count-unique}
 use Rattle.refusal.specs.Checks.{refuse_if, ◌and_then◌}
 use Rattle.refusal.specs.declared.Fault.{Fault}
-use Rattle.refusal.specs.declared.Check.TheVariants.{Passed}
 use Rattle.refusal.specs.declared.Refusal.{Refusal}
 use Rattle.refusal.proofs.Passed.{clash, both-passed}
 use Rattle.automaton.specs.File.{parsed}
 use Rattle.automaton.specs.declared.Header.{Header}
-use Rattle.automaton.specs.declared.file.Parsed.{Parsed}
 use Rattle.transitions.specs.Transitions.{automaton_of}
 use Rattle.transitions.proofs.Meaning.{file-proper}
 use Rattle.tree.specs.Payload.{tree_file}
@@ -46,7 +45,6 @@ use Rattle.emptiness.specs.declared.Survey.{Survey}
 use Rattle.emptiness.proofs.Proved.{surveyed-right}
 use Rattle.witness.specs.Plan.{plan_rows, rows_in, symbol_at, left_at, right_at, plan_tree, length_wrong, parts_wrong, row_wrong, plan_check, large_check}
 use Rattle.block_writer.specs.Written.{room_check, Filled, filled}
-use Rattle.block_writer.specs.declared.Written.{Written}
 use Rattle.block_writer.proofs.Answers.{after-bytes, after_kept}
 use Rattle.witness.specs.Written.{plan_file, space_check, witness_for, witness_of}
 use Rattle.witness.specs.Promise.{PlanTree, TreeWritten, FoundWritten, Promise}
@@ -71,7 +69,7 @@ module _ (sg : Signature) (p : List ℕ) (passed : PlanPassed sg p) where
 
 -- ---- an answer, back to its checks
 
-file-written : (sg : Signature) (p out : List ℕ) (n : ℕ) → (witness_for sg p out).answer ≡ Written.Bytes n
+file-written : (sg : Signature) (p out : List ℕ) (n : ℕ) → (witness_for sg p out).answer ≡ Ok n
     → TreeWritten sg p out (witness_for sg p out).out n
 unfolding witness_for
 file-written sg p out n e =
@@ -104,7 +102,7 @@ row-right sg p i l (node-row {σ = σ} {a = x} {b = y} a hx hy f g) o =
     rw (es, ea, eb, lt-leb sg.symbols σ (omega (arith, n.1)), eq-eqb (bit sg.branches σ) 1 n.2, lt-leb i x hx, lt-leb i y hy)
 
 pub plan-passes : (sg : Signature) (p : List ℕ) (n : ℕ) → length p ≡ 3 * n → 0 < n → n ≤ 65
-    → ((i : ℕ) → i < rows_in p → (t : Tree) × BuildsAt (plan_rows p) i t × Over (alphabet sg) t) → plan_check sg p ≡ Passed
+    → ((i : ℕ) → i < rows_in p → (t : Tree) × BuildsAt (plan_rows p) i t × Over (alphabet sg) t) → plan_check sg p ≡ Ok tt
 unfolding plan_check length_wrong
 plan-passes sg p n e some few rows =
     let a : length p ≡ 0 → ⊥ = λ z. omega arith in
@@ -116,18 +114,18 @@ plan-passes sg p n e some few rows =
 -- ---- the plan of a Found
 
 -- a survey that finds had a buffer that is long enough
-long-enough : (w : List ℕ) (h : Header) → parsed w ≡ Parsed.Read h → (buffer : List ℕ) (high rows : ℕ)
-    → (surveyed w buffer).answer ≡ Survey.Found high rows → 195 ≤ length buffer
+long-enough : (w : List ℕ) (h : Header) → parsed w ≡ Ok h → (buffer : List ℕ) (high rows : ℕ)
+    → (surveyed w buffer).answer ≡ Ok (Survey.Found high rows) → 195 ≤ length buffer
 unfolding surveyed surveyed_by buffer_check
 long-enough w h read buffer high rows told = by (ltb (length buffer) 195) refl (rw read at told)
   where
     by : (t : Bool) → ltb (length buffer) 195 ≡ t
-        → (after_buffer (refuse_if t Fault.Buffer 2 195) (automaton_of h (content w)) buffer).answer ≡ Survey.Found high rows → 195 ≤ length buffer
+        → (after_buffer (refuse_if t Fault.Buffer 2 195) (automaton_of h (content w)) buffer).answer ≡ Ok (Survey.Found high rows) → 195 ≤ length buffer
     by true f e = clash (cc)
     by false f e = ltb-false (length buffer) 195 f
 
-module _ (w : List ℕ) (h : Header) (read : parsed w ≡ Parsed.Read h) (buffer : List ℕ) (high rows : ℕ) (enough : 195 ≤ length buffer)
-    (told : (surveyed w buffer).answer ≡ Survey.Found high rows) where
+module _ (w : List ℕ) (h : Header) (read : parsed w ≡ Ok h) (buffer : List ℕ) (high rows : ℕ) (enough : 195 ≤ length buffer)
+    (told : (surveyed w buffer).answer ≡ Ok (Survey.Found high rows)) where
   abbrev A : Automaton
   A = automaton_of h (content w)
 
@@ -157,7 +155,7 @@ module _ (w : List ℕ) (h : Header) (read : parsed w ≡ Parsed.Read h) (buffer
     rows_are : plan_rows p ≡ plan
     rows_are = ap plan_rows is ∙ rows_back plan
 
-    found-passes : plan_check (signature_of (automaton_of h (content w))) p ≡ Passed
+    found-passes : plan_check (signature_of (automaton_of h (content w))) p ≡ Ok tt
     found-passes =
         let n : length p ≡ 3 * length plan = ap length is ∙ bytes-length plan in
         let k = found-kept (alphabet_of A) (algebra_of A) 64 high plan planned.is_surveys in
@@ -175,21 +173,21 @@ module _ (w : List ℕ) (h : Header) (read : parsed w ≡ Parsed.Read h) (buffer
         rw same planned.witness.accepted
 
 -- where no check stops it, the file's length is told
-stops-not : (sg : Signature) (p out : List ℕ) → plan_check sg p ≡ Passed → large_check p ≡ Passed → room_check (length (plan_file p)) (length out) ≡ Passed
-    → (witness_for sg p out).answer ≡ Written.Bytes (length (plan_file p))
+stops-not : (sg : Signature) (p out : List ℕ) → plan_check sg p ≡ Ok tt → large_check p ≡ Ok tt → room_check (length (plan_file p)) (length out) ≡ Ok tt
+    → (witness_for sg p out).answer ≡ Ok (length (plan_file p))
 unfolding witness_for
 stops-not sg p out e a b = rw (e, space-passes p (length out) a b)
 
 module _ (w p before : List ℕ) where
-  pub refused-is : (r : Refusal) → parsed w ≡ Parsed.Refused r → witness_of w p before ≡ filled (Written.Refused r) before
+  pub refused-is : (r : Refusal) → parsed w ≡ Err r → witness_of w p before ≡ filled (Err r) before
   unfolding witness_of
   refused-is r read = rw read
 
-  pub witness-is : (h : Header) → parsed w ≡ Parsed.Read h → witness_of w p before ≡ witness_for (signature_of (automaton_of h (content w))) p before
+  pub witness-is : (h : Header) → parsed w ≡ Ok h → witness_of w p before ≡ witness_for (signature_of (automaton_of h (content w))) p before
   unfolding witness_of
   witness-is h read = rw read
 
-  file-promise : (h : Header) → parsed w ≡ Parsed.Read h → (n : ℕ) → (witness_of w p before).answer ≡ Written.Bytes n
+  file-promise : (h : Header) → parsed w ≡ Ok h → (n : ℕ) → (witness_of w p before).answer ≡ Ok n
       → TreeWritten (signature_of (automaton_of h (content w))) p before (witness_of w p before).out n
   file-promise h read n e =
       subst (λ (o : Filled). TreeWritten (signature_of (automaton_of h (content w))) p before o.out n) (sym (witness-is h read))
@@ -200,18 +198,18 @@ module _ (w p before : List ℕ) where
       → take n (witness_of w p before).out ≡ tree_file t.tree
   front-is h n t = ap (take n) t.bytes ∙ take_at (tree_file t.tree) (drop n before) n (sym t.long)
 
-  kept-promise : (q : Parsed) → parsed w ≡ q → (r : Refusal) → (witness_of w p before).answer ≡ Written.Refused r → (witness_of w p before).out ≡ before
+  kept-promise : (q : Result Header Refusal) → parsed w ≡ q → (r : Refusal) → (witness_of w p before).answer ≡ Err r → (witness_of w p before).out ≡ before
   unfolding witness_of witness_for
-  kept-promise (Parsed.Refused s) read r e = rw read
-  kept-promise (Parsed.Read h) read r e =
+  kept-promise (Err s) read r e = rw read
+  kept-promise (Ok h) read r e =
       rw read (after_kept (plan_check (signature_of (automaton_of h (content w))) p and_then space_check p (length before)) (plan_file p) before r (rw read at e))
 
-  tree-promise : (h : Header) → parsed w ≡ Parsed.Read h → plan_check (signature_of (automaton_of h (content w))) p ≡ Passed → large_check p ≡ Passed
+  tree-promise : (h : Header) → parsed w ≡ Ok h → plan_check (signature_of (automaton_of h (content w))) p ≡ Ok tt → large_check p ≡ Ok tt
       → (t : Tree) × PlanTree (signature_of (automaton_of h (content w))) p t
   tree-promise h read e l = (plan_tree p, plan-tree (signature_of (automaton_of h (content w))) p (plan-passed (signature_of (automaton_of h (content w))) p e) (large-passed p l))
 
-  found-promise : (h : Header) → parsed w ≡ Parsed.Read h → (buffer : List ℕ) (high rows : ℕ)
-      → (surveyed w buffer).answer ≡ Survey.Found high rows → p ≡ take (3 * rows) (surveyed w buffer).buffer
+  found-promise : (h : Header) → parsed w ≡ Ok h → (buffer : List ℕ) (high rows : ℕ)
+      → (surveyed w buffer).answer ≡ Ok (Survey.Found high rows) → p ≡ take (3 * rows) (surveyed w buffer).buffer
       → FoundWritten w (automaton_of h (content w)) p before (witness_of w p before)
   found-promise h read buffer high rows told e =
       record {
@@ -227,13 +225,13 @@ module _ (w p before : List ℕ) where
       bytes : p ≡ plan_bytes (planned w h read buffer high rows enough told).plan
       bytes = e ∙ found-bytes w h read buffer high rows enough told
 
-      passes : plan_check (signature_of (automaton_of h (content w))) p ≡ Passed
+      passes : plan_check (signature_of (automaton_of h (content w))) p ≡ Ok tt
       passes = found-passes w h read buffer high rows enough told p bytes
 
       runs : (t : Tree) → Builds (plan_rows p) t → Accepted (automaton_of h (content w)) t
       runs t b = found-accepted w h read buffer high rows enough told p bytes t b
 
-      accepts : (t : Tree) → PlanTree (signature_of (automaton_of h (content w))) p t → judged w (tree_file t) ≡ Answer.Accepted
+      accepts : (t : Tree) → PlanTree (signature_of (automaton_of h (content w))) p t → judged w (tree_file t) ≡ Ok Answer.Accepted
       accepts t pl =
           let j = judged-right w (tree_file t) h (size t) read pl.reads_back.read in
           let same : t ≡ j.tree = j.one t pl.reads_back.writes in

@@ -1,5 +1,6 @@
 -- Refusals 16 and 13, by the size that the code counts up to 4,097.
 -- Assumes nothing.
+use Rattle.std.proofs.Common.{Ok}
 use Prim.Native.Nat.{ℕ, ◌+◌, ◌*◌, ◌<◌, ◌≤◌, min}
 use native.Mathlib.Omega.{arith}
 use mathlib.Core.Path.{◌≡◌}
@@ -8,9 +9,7 @@ use borrow.Author.Tests.{lt-ltb, le-ltb, ltb-false}
 use lib.ListN.{length}
 use Rattle.blocks.specs.FileOf.{blocks_needed}
 use Rattle.model.specs.Trees.{size}
-use Rattle.refusal.specs.Checks.{refused}
-use Rattle.refusal.specs.declared.Check.{Check}
-use Rattle.refusal.specs.declared.Check.TheVariants.{Passed}
+use Rattle.refusal.specs.Checks.{refused, Check}
 use Rattle.refusal.specs.declared.Fault.{Fault}
 use Rattle.refusal.proofs.Passed.{both-passed, if-passed}
 use Rattle.tree_writer.proofs.Reading.{tree-long}
@@ -24,7 +23,7 @@ pub space_large : (p : List ℕ) (room : ℕ) → 4096 < size (plan_tree p) → 
 unfolding space_check large_check
 space_large p room h = rw (lt-ltb 4096 (size (plan_tree p)) h)
 
-pub not-large : (p : List ℕ) (n : ℕ) → n ≡ min (size (plan_tree p)) 4097 → n ≤ 4096 → large_check p ≡ Passed
+pub not-large : (p : List ℕ) (n : ℕ) → n ≡ min (size (plan_tree p)) 4097 → n ≤ 4096 → large_check p ≡ Ok tt
 unfolding large_check
 not-large p n e h = rw (le-ltb 4096 (size (plan_tree p)) (omega arith))
 
@@ -39,16 +38,16 @@ pub room-is : (p : List ℕ) (room n : ℕ) {x : Check} → n ≡ size (plan_tre
     → x ≡ room_check (length (plan_file p)) room
 room-is p room n e ex = rw (file-long p, ← e) ex
 
-pub large-passed : (p : List ℕ) → large_check p ≡ Passed → size (plan_tree p) ≤ 4096
+pub large-passed : (p : List ℕ) → large_check p ≡ Ok tt → size (plan_tree p) ≤ 4096
 unfolding large_check
 large-passed p e = ltb-false 4096 (size (plan_tree p)) (if-passed _ Fault.Large 2 0 e)
 
-pub space-passed : (p : List ℕ) (room : ℕ) → space_check p room ≡ Passed → (size (plan_tree p) ≤ 4096) × (length (plan_file p) ≤ room)
+pub space-passed : (p : List ℕ) (room : ℕ) → space_check p room ≡ Ok tt → (size (plan_tree p) ≤ 4096) × (length (plan_file p) ≤ room)
 unfolding space_check
 space-passed p room e =
     let both = both-passed (large_check p) (room_check (length (plan_file p)) room) e in
     (large-passed p both.0, room-passed (length (plan_file p)) room both.1)
 
-pub space-passes : (p : List ℕ) (room : ℕ) → large_check p ≡ Passed → room_check (length (plan_file p)) room ≡ Passed → space_check p room ≡ Passed
+pub space-passes : (p : List ℕ) (room : ℕ) → large_check p ≡ Ok tt → room_check (length (plan_file p)) room ≡ Ok tt → space_check p room ≡ Ok tt
 unfolding space_check
 space-passes p room l r = rw (l, r)

@@ -6,8 +6,7 @@ use Rattle.relation.specs.Sets.{member}
 use Rattle.model.specs.Trees.{Tree, leaf, node, size}
 use Rattle.model.specs.Saturation.{WitnessRow, witness_row}
 use Rattle.model.specs.declared.Signature.{Signature}
-use Rattle.refusal.specs.Checks.{refuse_if, refuse_at, ◌and_then◌}
-use Rattle.refusal.specs.declared.Check.{Check}
+use Rattle.refusal.specs.Checks.{refuse_if, refuse_at, ◌and_then◌, Check}
 use Rattle.refusal.specs.declared.Fault.{Fault}
 
 -- ---- the rows

@@ -1,11 +1,9 @@
 -- What is answered to an automaton's file, a plan and a lent output, and what is left in the output. The quotations are of document 02, W1.
 -- Interface: `plan_file`, `space_check`, `witness_for`, `witness_of`.
-use Rattle.std.specs.Prelude.{List, ℕ, length}
+use Rattle.std.specs.Prelude.{List, ℕ, length, Err}
 use Rattle.model.specs.declared.Signature.{Signature}
-use Rattle.refusal.specs.Checks.{◌and_then◌}
-use Rattle.refusal.specs.declared.Check.{Check}
+use Rattle.refusal.specs.Checks.{◌and_then◌, Check}
 use Rattle.block_writer.specs.Written.{room_check, Filled, filled, filled_after}
-use Rattle.block_writer.specs.declared.Written.{Written}
 use Rattle.transitions.specs.Transitions.{by_automaton}
 use Rattle.membership.specs.Judged.{signature_of}
 use Rattle.tree.specs.Payload.{tree_file}
@@ -25,4 +23,4 @@ witness_for sg p out = filled_after (plan_check sg p and_then space_check p (len
 
 -- "15, after the walker's own": of an automaton's file w
 unfoldable pub witness_of : (w plan out : List ℕ) → Filled
-witness_of w p out = by_automaton w (λ r. filled (Written.Refused r) out) (λ A. witness_for (signature_of A) p out)
+witness_of w p out = by_automaton w (λ r. filled (Err r) out) (λ A. witness_for (signature_of A) p out)

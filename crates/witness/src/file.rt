@@ -8,15 +8,15 @@ ghost use Rattle.witness.specs.Written.{plan_file, space_check, witness_for, wit
 ghost use Rattle.witness.specs.Promise.{Promise};
 
 use crate::plan::{plan_check, plan_size, write_nodes};
-use automaton::file::{Parsed, read};
-use block_writer::{Written, room_check};
+use automaton::file::read;
+use block_writer::room_check;
 use model::Signature;
-use refusal::{Check, Fault, refused};
+use refusal::{Fault, Refusal, refused};
 use tree_writer::write_tree;
 
 // Refusal 16, then 13.
 #[tactic(auto, using(crate::proofs::Space::space_large))]
-fn space_check(plan: &[u8], room: usize) -> Check
+fn space_check(plan: &[u8], room: usize) -> Result<(), Refusal>
     requires { Sound plan.now }
     ensures { result ≡ space_check plan.now room }
 {
@@ -38,32 +38,21 @@ fn put_tree(plan: &[u8], out: &mut [u8]) -> usize
 }
 
 // The same after the checks.
-fn write_checked(signature: Signature, plan: &[u8], out: &mut [u8]) -> Written
+fn write_checked(signature: Signature, plan: &[u8], out: &mut [u8]) -> Result<usize, Refusal>
     ensures { filled result out.new ≡ witness_for signature plan.now out.old }
 {
-    if let Check::Refused(refusal) = plan_check(signature, plan) {
-        return Written::Refused(refusal);
-    }
-    if let Check::Refused(refusal) = space_check(plan, out.len()) {
-        return Written::Refused(refusal);
-    }
-    Written::Bytes(put_tree(plan, out))
+    plan_check(signature, plan)?;
+    space_check(plan, out.len())?;
+    Ok(put_tree(plan, out))
 }
 
 // The tree of a plan's last row as a tree's file, at the front of `out`: the plan is one for the symbols of an automaton's file.
-pub fn write(file: &[u8], plan: &[u8], out: &mut [u8]) -> Written
+pub fn write(file: &[u8], plan: &[u8], out: &mut [u8]) -> Result<usize, Refusal>
     ensures equals { filled result out.new ≡ witness_of file.now plan.now out.old }
     ensures right { Promise file.now plan.now out.old (filled result out.new) }
 {
     let mut contents = [0u8; 3048];
-    match read(file, &mut contents) {
-        Parsed::Refused(refusal) => Written::Refused(refusal),
-        Parsed::Read(header) => {
-            let signature = Signature {
-                symbols: header.symbols,
-                branches: header.branches,
-            };
-            write_checked(signature, plan, out)
-        }
-    }
+    let header = read(file, &mut contents)?;
+    let signature = Signature::from(header);
+    write_checked(signature, plan, out)
 }

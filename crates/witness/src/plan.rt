@@ -8,10 +8,9 @@ ghost use Rattle.model.specs.Trees.{size};
 ghost use Rattle.nodes.specs.Preorder.{preorder};
 
 use algorithms::is_branch;
-use blocks::Found;
 use model::{Signature, Symbol};
 use refusal::lines::refuse_at;
-use refusal::{Check, Fault, refused};
+use refusal::{Fault, Refusal, refused};
 use representatives::Row;
 
 // Whether a plan cannot have so many bytes.
@@ -58,23 +57,21 @@ fn row_wrong(signature: Signature, plan: &[u8], row: Row) -> bool
 }
 
 // The first wrong row.
-fn first_wrong(signature: Signature, plan: &[u8]) -> Found
+fn first_wrong(signature: Signature, plan: &[u8]) -> Option<usize>
     requires { length plan.now ≤ 195 }
     ensures { result ≡ lowest (row_wrong signature plan.now) (length plan.now / 3) }
 {
     let rows = plan.len() / 3;
-    let mut i = 0;
-    while i < rows {
+    for i in 0..rows {
         if row_wrong(signature, plan, Row(i as u8)) {
-            return Found::At(i);
+            return Some(i);
         }
-        i += 1;
     }
-    Found::Nothing
+    None
 }
 
 // Refusal 15.
-pub fn plan_check(signature: Signature, plan: &[u8]) -> Check
+pub fn plan_check(signature: Signature, plan: &[u8]) -> Result<(), Refusal>
     ensures { result ≡ plan_check signature plan.now }
 {
     if length_wrong(plan.len()) {
@@ -108,11 +105,9 @@ pub fn plan_size(plan: &[u8]) -> usize
 {
     let mut sizes = [0usize; 65];
     let rows = plan.len() / 3;
-    let mut i = 0;
-    while i < rows {
+    for i in 0..rows {
         let here = row_size(plan, &sizes, Row(i as u8));
         sizes[i] = here;
-        i += 1;
     }
     sizes[rows - 1]
 }

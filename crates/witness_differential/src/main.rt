@@ -6,7 +6,7 @@
 
 use sampling::access::number;
 use sampling::random::{chance, seed};
-use sampling::report::{labelled, text};
+use sampling::report::{differences, labelled, row, text};
 use sampling::rules::Automaton;
 use search::files;
 use trials::{count_height, file_damaged, input, make_plan};
@@ -56,9 +56,13 @@ fn inputs(
 ) {
     let made = make_plan(random, a, file, buffer);
     let length = made.length;
-    let height = made.height;
-    count_height(counts, height);
-    let from = if height < 99 { 0 } else { 6 };
+    let from = match made.height {
+        Some(height) => {
+            count_height(counts, height);
+            0
+        }
+        None => 6,
+    };
     input(
         counts,
         from,
@@ -114,11 +118,7 @@ fn line(label: &[u8], counts: &[usize], at: usize) {
 
 // How many trees were found at each height, from 7 on together.
 fn print_heights(counts: &[usize]) {
-    text(b"found at heights 0 to 7:");
-    for h in 0..8usize {
-        labelled(b" ", number(counts, 18 + h));
-    }
-    text(b"\n");
+    row(b"found at heights 0 to 7:", counts, 18, 26);
 }
 
 fn main() {
@@ -128,6 +128,5 @@ fn main() {
     line(b"by chance", &counts, 6);
     line(b"damaged", &counts, 12);
     print_heights(&counts);
-    labelled(b"differences ", number(&counts, 26));
-    text(b"\n");
+    differences(number(&counts, 26));
 }

@@ -1,11 +1,7 @@
 -- `agreement::common_bytes` meets its contract. The invariant: what is left from byte `at` on gives the answer.
 -- Assumes nothing.
-use Prim.Native.Nat.{◌-◌}
 use Rattle.agreement.proofs.Agreeing.{Searched}
 use Rattle.agreement.proofs.common_bytes.Given as goal
 
 abbrev pub invariant-loop-at : goal.invariant-loop-at
 invariant-loop-at l = Searched l.first l.second l.end l.at
-
-abbrev pub decreases-loop-at : goal.decreases-loop-at
-decreases-loop-at l = l.end - l.at

@@ -1,6 +1,6 @@
 -- `approximation::leaf_sets` meets its contract. The invariant: the leaves below the symbol are joined.
 -- Assumes nothing.
-use Prim.Native.Nat.{◌-◌, ◌≤◌}
+use Prim.Native.Nat.{◌≤◌}
 use mathlib.Core.Path.{◌≡◌}
 use Rattle.algorithms.specs.Automaton.{Automaton, Proper, numbered}
 use Rattle.algorithms.specs.Saturate.{algebra_of}
@@ -12,6 +12,3 @@ use Rattle.approximation.proofs.leaf_sets.Given as goal
 abbrev pub invariant-loop-symbol : goal.invariant-loop-symbol
 invariant-loop-symbol l = (l.symbol ≤ l.header.symbols)
     × ((A : Automaton) → Proper A → Leaves A l.leaves → parts_in l.sets ≡ gathered nothing (algebra_of A).leaf_class (numbered 0 l.header.branches 0 l.symbol))
-
-abbrev pub decreases-loop-symbol : goal.decreases-loop-symbol
-decreases-loop-symbol l = l.header.symbols - l.symbol

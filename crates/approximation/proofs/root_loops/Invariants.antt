@@ -1,6 +1,6 @@
 -- `approximation::root_loops` meets its contract. The invariant: the loops of the symbols below the symbol are joined.
 -- Assumes nothing.
-use Prim.Native.Nat.{◌-◌, ◌≤◌}
+use Prim.Native.Nat.{◌≤◌}
 use mathlib.Core.Path.{◌≡◌}
 use Rattle.algorithms.specs.Automaton.{Automaton}
 use Rattle.algorithms.specs.Saturate.{parts}
@@ -11,6 +11,3 @@ use Rattle.approximation.proofs.root_loops.Given as goal
 abbrev pub invariant-loop-symbol : goal.invariant-loop-symbol
 invariant-loop-symbol l = (l.symbol ≤ l.header.symbols)
     × ((A : Automaton) → Tabled A l.states l.table → l.loops.rows ≡ at_root A (parts l.left.rows l.right.rows) l.header.branches l.symbol)
-
-abbrev pub decreases-loop-symbol : goal.decreases-loop-symbol
-decreases-loop-symbol l = l.header.symbols - l.symbol

@@ -1,7 +1,5 @@
 -- `approximation::settled` meets its contract. The invariant: the turns left lead from the sets to the least.
 -- Assumes nothing.
--- one turn: nothing is new, or the rest goes on from what was formed
--- no turn is left
 use borrow.Author.Rules.{rules}
 use Prim.Native.Nat.{ℕ, suc, ◌+◌, ◌-◌, ◌<◌, ◌≤◌}
 use mathlib.Core.Bool.{true, false}
@@ -12,6 +10,7 @@ use Rattle.algorithms.specs.Saturate.{Parts, same_parts}
 use Rattle.algorithms.specs.Approximate.{formed, settled}
 use Rattle.approximation.proofs.settled.Goals as goal
 
+-- one turn: nothing is new, or the rest goes on from what was formed
 module _ (A : Automaton) (turn : ℕ) (x y : Parts) (l : turn < 1153) (f : y ≡ formed A x) where
   turns : 1153 - turn ≡ suc (1153 - (turn + 1))
   turns = omega arith
@@ -24,6 +23,7 @@ module _ (A : Automaton) (turn : ℕ) (x y : Parts) (l : turn < 1153) (f : y ≡
   unfolding settled
   goes e = rw (turns, ← f, e)
 
+-- no turn is left
 ends : (A : Automaton) (turn : ℕ) (x : Parts) → 1153 ≤ turn → settled A (1153 - turn) x ≡ x
 unfolding settled
 ends A turn x l = let none : 1153 - turn ≡ 0 = omega arith in rw none

@@ -13,6 +13,3 @@ use Rattle.approximation.proofs.settled.Given as goal
 abbrev pub invariant-loop-turn : goal.invariant-loop-turn
 invariant-loop-turn l = (l.turn ≤ 1153)
     × ((A : Automaton) → Headed A l.header l.table → settled A (1153 - l.turn) (parts_in l.sets) ≡ settled A 1153 (parts_in l.initial.sets))
-
-abbrev pub decreases-loop-turn : goal.decreases-loop-turn
-decreases-loop-turn l = 1153 - l.turn

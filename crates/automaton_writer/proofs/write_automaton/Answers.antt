@@ -21,8 +21,7 @@ pub write_file-requires : goal.write_file-requires
 write_file-requires c =
     let payload-is : take c.write_payload-len.result c.write_payload-len.new.payload
     ≡ payload_of c.args.header c.args.records.now = front _ _ _ _ c.write_payload-len.ensures.0 c.write_payload-len.ensures.1 in
-    let s = c in
-    rw (payload-is, payload-length s.args.header s.args.records.now) s.requires.1
+    rw (payload-is, payload-length c.args.header c.args.records.now) c.requires.1
 
 pub returns : goal.returns
 returns c =

@@ -7,11 +7,11 @@ use mathlib.Core.Path.{refl, sym, ap, ◌∙◌}
 use borrow.Author.Tests.{not-true, not-false}
 use lib.ListN.{length, length-drop}
 use lib.Seq.{length-take-le}
-use Rattle.batch.proofs.Tallying.{begins, tally-ends, tally-goes-on, tally-rest}
+use Rattle.batch.proofs.Tallying.{fresh-cached, tally-ends, tally-goes-on, tally-rest}
 use Rattle.batch.proofs.tally_all.Goals as goal
 
 pub loop-header-init : goal.loop-header-init
-loop-header-init c = (omega arith, refl, λ A k. (begins A, refl))
+loop-header-init c = (omega arith, refl, λ A k. (fresh-cached A _ c.fresh-cache.ensures, refl))
 
 pub slice_bounds-judge_part-end : goal.slice_bounds-judge_part-end
 slice_bounds-judge_part-end c = sym c.loop-header.invariant.1

@@ -7,6 +7,3 @@ use Rattle.blocks.proofs.first_bad_block.Given as goal
 
 abbrev pub invariant-loop-b : goal.invariant-loop-b
 invariant-loop-b l = (l.b ≤ l.blocks) × (lowest (check_wrong l.file) l.blocks ≡ lowest_from (check_wrong l.file) l.b (l.blocks - l.b))
-
-abbrev pub decreases-loop-b : goal.decreases-loop-b
-decreases-loop-b l = l.blocks - l.b

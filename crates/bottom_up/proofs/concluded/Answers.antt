@@ -16,7 +16,8 @@ pub returns-then-right-gt1023 : goal.returns-then-right-gt1023
 returns-then-right-gt1023 c = λ A count s k e h. c.unknown-then-right-gt1023.ensures A _ s
 
 pub node_weighed-requires : goal.node_weighed-requires
-node_weighed-requires c = (c.requires.0, omega (arith, c.if-symbol-gt31.false), rw c.in-Parts.is at c.requires.1)
+node_weighed-requires c =
+    (c.requires.0, omega (arith, c.if-symbol-gt31.false), rw c.in-Parts.is at c.requires.1)
 
 pub returns-else-right-gt1023 : goal.returns-else-right-gt1023
 returns-else-right-gt1023 c =
@@ -31,6 +32,3 @@ returns-in-Leaf c =
     λ A count s k e h.
     let p = rw c.in-Leaf.is at h in
     c.leaf_weighed.ensures A _ s k (rw (leaf_first _ s _ p.0 p.1 e) p.1)
-
-pub returns-in-Off : goal.returns-in-Off
-returns-in-Off c = λ A count s k e h. c.unknown-in-Off.ensures A _ s

@@ -5,13 +5,10 @@ use lib.ListN.{length, drop}
 use Rattle.algorithms.specs.Automaton.{Automaton}
 use Rattle.automaton.specs.File.{signature_in}
 use Rattle.overloops.specs.Tables.{Tabled}
-use Rattle.class_tables.specs.Cache.{CachedIn}
+use Rattle.class_tables.specs.Cache.{Cached}
 use Rattle.bottom_up.specs.Steps.{Loaded}
 use Rattle.bottom_up.proofs.pass.Given as goal
 
 abbrev pub invariant-loop-at : goal.invariant-loop-at
 invariant-loop-at l = (0 < l.at) × (l.at ≤ length l.symbols) × (l.growth ≤ 2048 * (length l.symbols - l.at)) × ((A : Automaton) → Tabled A l.header.states l.table
-    → CachedIn A l.initial.counts l.initial.store l.initial.maps l.initial.cells → Loaded A (signature_in l.header) l.counts l.store l.maps l.cells l.leaves l.words (drop l.at l.symbols) l.stack l.growth)
-
-abbrev pub decreases-loop-at : goal.decreases-loop-at
-decreases-loop-at l = l.at
+    → Cached A l.initial.cache → Loaded A (signature_in l.header) l.cache l.leaves l.words (drop l.at l.symbols) l.stack l.growth)

@@ -1,6 +1,5 @@
 -- `candidates::try_branches` meets its contract. The invariant: the branch symbols before were tried.
 -- Assumes nothing.
--- one turn
 use borrow.Author.Rules.{rules}
 use mathlib.Core.Path.{◌≡◌, refl}
 use mathlib.Core.List.{flat_map}
@@ -13,15 +12,15 @@ unfolding flat_map
 loop-symbol-init c = (search rules, search rules, λ A k base h e s. begun A refl h)
 
 pub returns-in-Accepted : goal.returns-in-Accepted
-returns-in-Accepted c = (tt, λ A k base h e s. ended A _ (set_split _ 1 c.args.header.branches c.loop-symbol.symbol c.args.header.symbols (search rules)) (turn A (set_snoc _ 1 c.args.header.branches c.loop-symbol.symbol) (c.loop-symbol.invariant.2 A k base h e s) (λ g. c.try_if_branch.ensures.1 A k base _ g e s (search rules)) c.in-Accepted.is))
+returns-in-Accepted c = (tt, λ A k base h e s. ended A _ (set_split _ 1 c.args.prepared.header.branches c.loop-symbol.symbol c.args.prepared.header.symbols (search rules)) (turn A (set_snoc _ 1 c.args.prepared.header.branches c.loop-symbol.symbol) (c.loop-symbol.invariant.2 A k base h e s) (λ g. c.try_if_branch.ensures.1 A k base _ g e s (search rules)) c.in-Accepted.is))
 
 pub loop-symbol-preserved : goal.loop-symbol-preserved
-loop-symbol-preserved c = (search rules, few-kept c.in-Kept.is c.try_if_branch.ensures.0, λ A k base h e s. turn A (set_snoc _ 1 c.args.header.branches c.loop-symbol.symbol) (c.loop-symbol.invariant.2 A k base h e s) (λ g. c.try_if_branch.ensures.1 A k base _ g e s (search rules)) c.in-Kept.is)
+loop-symbol-preserved c = (search rules, few-kept c.in-Kept.is c.try_if_branch.ensures.0, λ A k base h e s. turn A (set_snoc _ 1 c.args.prepared.header.branches c.loop-symbol.symbol) (c.loop-symbol.invariant.2 A k base h e s) (λ g. c.try_if_branch.ensures.1 A k base _ g e s (search rules)) c.in-Kept.is)
 
 pub returns : goal.returns
 returns c = (
   c.loop-symbol.invariant.1,
   λ A k base h e s.
-      let end : c.loop-symbol.symbol ≡ c.args.header.symbols = search rules in
+      let end : c.loop-symbol.symbol ≡ c.args.prepared.header.symbols = search rules in
       rw end at (c.loop-symbol.invariant.2 A k base h e s),
 )

@@ -1,6 +1,5 @@
 -- `candidates::try_lefts` meets its contract. The invariant: the left rows before were tried.
 -- Assumes nothing.
--- one turn
 use borrow.Author.Rules.{rules}
 use mathlib.Core.Path.{◌≡◌, refl}
 use mathlib.Core.List.{flat_map}

@@ -1,7 +1,7 @@
 -- `candidates::try_lefts` meets its contract. The invariant: the left rows before were tried.
 -- Assumes nothing.
 -- one turn
-use Prim.Native.Nat.{◌-◌, ◌≤◌}
+use Prim.Native.Nat.{◌≤◌}
 use mathlib.Core.Path.{◌≡◌}
 use mathlib.Core.List.{List}
 use lib.ListN.{length}
@@ -9,15 +9,12 @@ use Rattle.model.specs.Lists.{◌∈◌}
 use Rattle.model.specs.Saturation.{Candidate}
 use Rattle.algorithms.specs.Automaton.{Automaton, alphabet_of}
 use Rattle.algorithms.specs.Saturate.{algebra_of}
-use Rattle.overloops.specs.Ready.{Headed}
+use Rattle.classes.specs.Prepared.{HeadedFor}
 use Rattle.candidates.specs.Tries.{over_lefts, Keeps, Skips, Tries}
 use Rattle.candidates.specs.declared.Tried.{Tried}
 use Rattle.candidates.proofs.try_lefts.Given as goal
 
 abbrev pub invariant-loop-left : goal.invariant-loop-left
-invariant-loop-left l = (l.left ≤ l.to) × (l.n ≤ 65) × ((A : Automaton) → Headed A l.header l.table → (base before : List (Candidate (algebra_of A)))
+invariant-loop-left l = (l.left ≤ l.to) × (l.n ≤ 65) × ((A : Automaton) → HeadedFor A l.prepared → (base before : List (Candidate (algebra_of A)))
     → Keeps A base before l.kept l.initial.rows → length base ≡ l.to → Skips A base l.old l.doubles → l.symbol.0 ∈ (alphabet_of A).branches
     → Tries A base before (over_lefts (algebra_of A) base l.old l.to l.symbol.0 l.left) l.rows (Tried.Kept l.n))
-
-abbrev pub decreases-loop-left : goal.decreases-loop-left
-decreases-loop-left l = l.to - l.left

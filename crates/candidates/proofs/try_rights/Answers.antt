@@ -1,6 +1,5 @@
 -- `candidates::try_rights` meets its contract. The invariant: the right rows before were tried.
 -- Assumes nothing.
--- one turn
 use borrow.Author.Rules.{rules}
 use mathlib.Core.Path.{◌≡◌}
 use Rattle.classes.proofs.Symbols.{range_none, range_snoc, range_split, map-flat}

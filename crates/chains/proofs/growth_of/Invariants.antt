@@ -1,10 +1,7 @@
 -- `chains::growth_of` ends, after one turn for each state.
 -- Assumes nothing.
-use Prim.Native.Nat.{◌-◌, ◌≤◌}
+use Prim.Native.Nat.{◌≤◌}
 use Rattle.chains.proofs.growth_of.Given as goal
 
 abbrev pub invariant-loop-state : goal.invariant-loop-state
 invariant-loop-state l = l.state ≤ l.n
-
-abbrev pub decreases-loop-state : goal.decreases-loop-state
-decreases-loop-state l = l.n - l.state

@@ -1,10 +1,7 @@
 -- `class_tables::free_hint` meets its contract.
 -- Assumes nothing.
-use Rattle.std.proofs.Common.{◌-◌, ◌≤◌}
+use Rattle.std.proofs.Common.{◌≤◌}
 use Rattle.class_tables.proofs.free_hint.Given as goal
 
 abbrev pub invariant-loop-step : goal.invariant-loop-step
 invariant-loop-step l = l.step ≤ 4
-
-abbrev pub decreases-loop-step : goal.decreases-loop-step
-decreases-loop-step l = 4 - l.step

@@ -1,10 +1,7 @@
 -- `class_tables::place_near` meets its contract.
 -- Assumes nothing.
-use Rattle.std.proofs.Common.{◌-◌, ◌≤◌}
+use Rattle.std.proofs.Common.{◌≤◌}
 use Rattle.class_tables.proofs.place_near.Given as goal
 
 abbrev pub invariant-loop-step : goal.invariant-loop-step
 invariant-loop-step l = l.step ≤ 8
-
-abbrev pub decreases-loop-step : goal.decreases-loop-step
-decreases-loop-step l = 8 - l.step

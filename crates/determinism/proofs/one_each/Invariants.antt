@@ -1,6 +1,6 @@
 -- `determinism::one_each` meets its contract. The invariant: each of the first p states has one choice.
 -- Assumes nothing.
-use Prim.Native.Nat.{◌-◌, ◌≤◌}
+use Prim.Native.Nat.{◌≤◌}
 use mathlib.Core.Path.{◌≡◌}
 use mathlib.Core.Bool.{true}
 use Rattle.transitions.specs.Compiled.{next_in}
@@ -9,6 +9,3 @@ use Rattle.determinism.proofs.one_each.Given as goal
 
 abbrev pub invariant-loop-p : goal.invariant-loop-p
 invariant-loop-p l = (l.p ≤ l.states) × (one_each (next_in l.table) l.symbol.0 l.place l.p ≡ true)
-
-abbrev pub decreases-loop-p : goal.decreases-loop-p
-decreases-loop-p l = l.states - l.p

@@ -1,10 +1,7 @@
 -- `determinization::class_found` meets its contract.
 -- Assumes nothing.
-use Prim.Native.Nat.{◌-◌, ◌≤◌}
+use Prim.Native.Nat.{◌≤◌}
 use Rattle.determinization.proofs.class_found.Given as goal
 
 abbrev pub invariant-loop-step : goal.invariant-loop-step
 invariant-loop-step l = l.step ≤ 4
-
-abbrev pub decreases-loop-step : goal.decreases-loop-step
-decreases-loop-step l = 4 - l.step

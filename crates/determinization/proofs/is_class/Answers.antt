@@ -10,8 +10,8 @@ use Rattle.determinization.proofs.is_class.Goals as goal
 pub returns-then-class-eq0 : goal.returns-then-class-eq0
 returns-then-class-eq0 c = λ e. let z : ◌≡◌ {A = ℕ} 0 1 = cc in absurd (omega arith)
 
-pub returns-then-count-class : goal.returns-then-count-class
-returns-then-count-class c = λ e. let z : ◌≡◌ {A = ℕ} 0 1 = cc in absurd (omega arith)
+pub returns-then-cache-class : goal.returns-then-cache-class
+returns-then-cache-class c = λ e. let z : ◌≡◌ {A = ℕ} 0 1 = cc in absurd (omega arith)
 
 pub returns-then-not-same : goal.returns-then-not-same
 returns-then-not-same c = λ e. let z : ◌≡◌ {A = ℕ} 0 1 = cc in absurd (omega arith)

@@ -1,30 +1,41 @@
 -- `grammar::element` and `grammar::run`, which call each other, meet their contracts.
 -- Assumes nothing.
-use Rattle.std.proofs.Common.{arith, sym, ◌∙◌, ◌∷◌}
-use Rattle.grammar.proofs.Going.{stuck-after}
-use Rattle.grammar.proofs.Parts.{element-read, elements-on, close_at, less-at, elements-stuck}
+use Rattle.std.proofs.lemmas.Result.{err_from_is_err_and}
+use Rattle.std.proofs.Common.{arith, sym, ◌+◌, ◌∙◌, set, Ok, Err}
+use Rattle.grammar.proofs.Parts.{element-read, element-unread, run-unread, elements-on, close_at, less-at, elements-stuck}
 use Rattle.grammar.proofs.Filling.{tag-filled, on-filled}
 use Rattle.grammar.proofs.+element_run.Goals as goal
 
 pub element-run-requires : goal.element-run-requires
 element-run-requires t c =
-    let n = c.in-Named.ensures in
+    let n = c.in_ok-number.ensures in
     let q = c.requires.opens in (
       omega (arith, n.from, n.to, c.decreases, q.0),
       (n.to, (c.requires.table, tag-filled _ c.requires.filled (omega (arith, q.0)) n.from n.nodes)),
     )
 
-pub element-returns-in-Wrong-run : goal.element-returns-in-Wrong-run
-element-returns-in-Wrong-run t c =
-    let n = c.in-Named.ensures in
-    λ stack. stuck-after (omega (arith, n.from)) (n.goes stack) (c.in-Wrong-run.ensures (_ ∷ stack))
+pub element-returns-in_err-number : goal.element-returns-in_err-number
+element-returns-in_err-number t c =
+    let p = err_from_is_err_and c.from_residual.result c.from_residual.ensures.1 in
+    rw (p.1, p.2) c.in_err-number.ensures
 
-pub element-returns-in-To : goal.element-returns-in-To
-element-returns-in-To t c =
-    let r = c.in-To.ensures in
-    rw c.shut.ensures
-    (element-read _ _ _ _ _ _ _ c.close_tag.result c.in-Named.ensures r.0 c.close_tag.ensures
-    (λ k e. let m = rw e at c.close_tag.ensures in tag-filled 0 r.1 r.0.passed.to m.from m.nodes))
+pub element-returns-in_err-end : goal.element-returns-in_err-end
+element-returns-in_err-end t c =
+    let p = err_from_is_err_and c.from_residual-in_err-end.result c.from_residual-in_err-end.ensures.1 in
+    rw (p.1, p.2) (element-unread _ _ _ _ c.run.new.count c.run.new.nodes c.in_err-end.field-0.0 c.in_ok-number.ensures c.in_err-end.ensures)
+
+pub element-returns-in_err-after : goal.element-returns-in_err-after
+element-returns-in_err-after t c =
+    let p = err_from_is_err_and c.from_residual-in_err-after.result c.from_residual-in_err-after.ensures.1 in
+    let r = c.in_ok-end.ensures in
+    rw (p.1, p.2)
+    (element-read _ _ _ _ _ (c.run.new.count + 1) (set c.run.new.nodes c.run.new.count 0) (Err c.in_err-after.field-0.0) c.in_ok-number.ensures r.0 c.in_err-after.ensures (λ k e. cc))
+
+pub element-returns : goal.element-returns
+element-returns t c =
+    let r = c.in_ok-end.ensures in
+    element-read _ _ _ _ _ _ _ (Ok _) c.in_ok-number.ensures r.0 c.in_ok-after.ensures
+    (λ k e. let m = rw (c.in_ok-after.was ∙ e) at c.close_tag.ensures in tag-filled 0 r.1 r.0.passed.to m.from m.nodes)
 
 pub run-returns-then-class_at-eq-SLASH : goal.run-returns-then-class_at-eq-SLASH
 run-returns-then-class_at-eq-SLASH t c =
@@ -45,15 +56,15 @@ run-element-requires t c =
       ((k.0, k.1, λ e. c.if-class_at-eq-SLASH.false (c.class_at-in-loop-at.ensures ∙ e)), (c.requires.table, l.invariant.1)),
     )
 
-pub run-returns-in-Wrong : goal.run-returns-in-Wrong
-run-returns-in-Wrong t c =
-    let p = c.loop-at.invariant.0.passed in
-    λ stack. stuck-after p.from (p.goes stack) (c.in-Wrong.ensures stack)
+pub run-returns-in_err-after : goal.run-returns-in_err-after
+run-returns-in_err-after t c =
+    let p = err_from_is_err_and c.from_residual.result c.from_residual.ensures.1 in
+    rw (p.1, p.2) (run-unread _ _ _ c.element.new.count c.element.new.nodes c.in_err-after.field-0.0 c.loop-at.invariant.0 c.in_err-after.ensures)
 
 pub run-loop-at-preserved : goal.run-loop-at-preserved
 run-loop-at-preserved t c =
-    let e = c.in-To.ensures in
-    let k = c.skip-next-in-To.ensures in
+    let e = c.in_ok-after.ensures in
+    let k = c.skip-next-in-loop-at.ensures in
     (elements-on c.loop-at.invariant.0 e.0 k, on-filled e.2 k.from k.nodes)
 
 pub run-returns-else-next-text : goal.run-returns-else-next-text

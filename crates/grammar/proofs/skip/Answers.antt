@@ -2,7 +2,9 @@
 -- Assumes nothing.
 use borrow.Author.Rules.{rules}
 use native.Mathlib.Omega.{arith}
-use mathlib.Core.Path.{refl, sym, ◌∙◌}
+use mathlib.Core.Path.{◌≡◌, refl, sym, ◌∙◌}
+use lib.ListN.{length}
+use Rattle.grammar.specs.Reading.{Skipped}
 use Rattle.tags.proofs.Listed.{nodes-on}
 use Rattle.tags.proofs.ClassLaws.{space-less}
 use Rattle.grammar.specs.Pushdown.{here}
@@ -33,4 +35,7 @@ loop-next-preserved c =
 pub returns : goal.returns
 returns c =
     let l = c.loop-next in
-    record { from = l.invariant.0; to = l.invariant.1; goes = l.invariant.2; blank = l.invariant.3; nodes = l.invariant.4; ends = λ h e. absurd (omega arith) }
+    let end : l.next ≡ length c.args.text.now = omega (arith, l.invariant.1, c.loop-next-test.false) in
+    let read : Skipped c.args.text.now c.args.at l.next =
+    record { from = l.invariant.0; to = l.invariant.1; goes = l.invariant.2; blank = l.invariant.3; nodes = l.invariant.4; ends = λ h e. absurd (omega arith) } in
+    rw (← end) read

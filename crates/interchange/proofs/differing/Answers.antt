@@ -10,12 +10,10 @@ loop-p-init c = (search rules, λ k l b. absurd (omega arith))
 
 pub loop-p-preserved : goal.loop-p-preserved
 loop-p-preserved c =
-    let s = c in
     let l = c.loop-p in
-    (search rules, same_more s.args.rows.now s.args.x s.args.y l.p l.set c.unlike-set.result l.invariant.1 c.unlike-set.ensures)
+    (search rules, same_more c.args.rows.now c.args.x c.args.y l.p l.set c.unlike-set.result l.invariant.1 c.unlike-set.ensures)
 
 pub returns : goal.returns
 returns c =
-    let s = c in
     let l = c.loop-p in
-    same-done s.args.rows.now s.args.x s.args.y l.p l.set s.requires.0 s.requires.1 (search rules) l.invariant.1
+    same-done c.args.rows.now c.args.x c.args.y l.p l.set c.requires.0 c.requires.1 (search rules) l.invariant.1

@@ -10,7 +10,6 @@ use Rattle.interchange.proofs.is_double.Goals as goal
 pub returns : goal.returns
 returns c =
     λ e A class n marked l.
-    let s = c in
-    marked s.args.row.0 s.args.side l s.args.symbol.0
-    (ap (λ (k : ℕ). bit (get_or s.args.doubles.now (s.args.row.0 * 2 + k) 0) s.args.symbol.0) (sym c.side_number.ensures.0)
+    marked c.args.row.0 c.args.side l c.args.symbol.0
+    (ap (λ (k : ℕ). bit (get_or c.args.doubles.now (c.args.row.0 * 2 + k) 0) c.args.symbol.0) (sym c.side_number.ensures.0)
     ∙ (member_has _ _).0 (sym c.contains.ensures ∙ e))

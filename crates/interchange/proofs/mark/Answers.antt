@@ -17,15 +17,14 @@ bounds-doubles-row-in-loop-row c = simp length-set (search rules)
 
 pub loop-row-preserved : goal.loop-row-preserved
 loop-row-preserved c =
-    let s = c in
     let l = c.loop-row in (
       search rules,
       search rules,
       simp length-set l.invariant.2,
       λ A e class same h.
           words_more (MarkedAt A class) l.row l.doubles _ _ (omega arith) (l.invariant.3 A e class same h)
-          (λ σ b. doubled-as A σ _ (class_in s.args.rows.now) class l.row (λ j k. same j (omega arith)) (c.doubled.ensures A e σ b))
-          (λ σ b. doubled-as A σ _ (class_in s.args.rows.now) class l.row (λ j k. same j (omega arith)) (c.doubled-in-loop-row.ensures A e σ b)),
+          (λ σ b. doubled-as A σ _ (class_in c.args.rows.now) class l.row (λ j k. same j (omega arith)) (c.doubled.ensures A e σ b))
+          (λ σ b. doubled-as A σ _ (class_in c.args.rows.now) class l.row (λ j k. same j (omega arith)) (c.doubled-in-loop-row.ensures A e σ b)),
     )
 
 pub returns : goal.returns

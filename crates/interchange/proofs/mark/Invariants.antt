@@ -1,6 +1,6 @@
 -- `interchange::mark` meets its contract. The invariant: the rows before are marked.
 -- Assumes nothing.
-use Prim.Native.Nat.{ℕ, ◌-◌, ◌≤◌, ◌<◌}
+use Prim.Native.Nat.{ℕ, ◌≤◌, ◌<◌}
 use mathlib.Core.Path.{◌≡◌}
 use lib.ListN.{length}
 use Rattle.algorithms.specs.Automaton.{Automaton}
@@ -12,6 +12,3 @@ use Rattle.interchange.proofs.mark.Given as goal
 abbrev pub invariant-loop-row : goal.invariant-loop-row
 invariant-loop-row l = (l.from ≤ l.row) × (l.row ≤ l.to) × (length l.doubles ≡ 128) × ((A : Automaton) → Enters A l.symbols l.entered
     → (class : ℕ → Parts) → ((i : ℕ) → i < l.to → class_in l.rows i ≡ class i) → Marked A class l.from l.initial.doubles → Marked A class l.row l.doubles)
-
-abbrev pub decreases-loop-row : goal.decreases-loop-row
-decreases-loop-row l = l.to - l.row

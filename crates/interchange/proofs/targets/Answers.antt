@@ -10,12 +10,10 @@ loop-p-init c = (search rules, λ k q l b. absurd (omega arith))
 
 pub loop-p-preserved : goal.loop-p-preserved
 loop-p-preserved c =
-    let s = c in
     let l = c.loop-p in
-    (search rules, lead-more s.args.table.now s.args.at l.p l.set l.invariant.1)
+    (search rules, lead-more c.args.table.now c.args.at l.p l.set l.invariant.1)
 
 pub returns : goal.returns
 returns c =
-    let s = c in
     let l = c.loop-p in
-    lead-done s.args.table.now s.args.at l.p l.set s.requires (search rules) l.invariant.1
+    lead-done c.args.table.now c.args.at l.p l.set c.requires (search rules) l.invariant.1

@@ -1,10 +1,7 @@
 -- `large_trees::first_at` ends, at the last node at the latest.
 -- Assumes nothing.
-use Prim.Native.Nat.{◌-◌, ◌≤◌}
+use Prim.Native.Nat.{◌≤◌}
 use Rattle.large_trees.proofs.first_at.Given as goal
 
 abbrev pub invariant-loop-node : goal.invariant-loop-node
 invariant-loop-node l = l.node ≤ l.size
-
-abbrev pub decreases-loop-node : goal.decreases-loop-node
-decreases-loop-node l = l.size - l.node

@@ -8,6 +8,3 @@ use Rattle.linking.proofs.link_tree.Given as goal
 
 abbrev pub invariant-loop-at : goal.invariant-loop-at
 invariant-loop-at l = (l.at ≤ length l.symbols) × (length l.parents ≡ length l.initial.parents) × (length l.rights ≡ length l.initial.rights) × Loaded l.signature (length l.symbols) l.parents l.rights l.words (drop l.at l.symbols) l.stack
-
-abbrev pub decreases-loop-at : goal.decreases-loop-at
-decreases-loop-at l = l.at

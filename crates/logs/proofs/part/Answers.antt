@@ -2,5 +2,5 @@
 -- Assumes nothing.
 use Rattle.logs.proofs.part.Goals as goal
 
-pub returns-in-Counted : goal.returns-in-Counted
-returns-in-Counted c = record { itself = c.common.ensures.itself; equals = rw c.in-Counted.is c.common.ensures.equals }
+pub returns-in-Ok : goal.returns-in-Ok
+returns-in-Ok c = record { itself = c.common.ensures.itself; equals = rw c.in-Ok.is c.common.ensures.equals }

@@ -1,9 +1,8 @@
 -- `nodes::scan_nodes` meets its contract: a node more is `onward`, and the end is `ended`.
 -- Assumes nothing.
-use Rattle.std.proofs.Common.{◌≡◌, sym, ap, ap₂, ◌∙◌, arith}
+use Rattle.std.proofs.Common.{◌≡◌, sym, ap, ap₂, ◌∙◌, arith, Some}
 use Rattle.nodes.specs.Reader.{node_at, place_after}
 use Rattle.nodes.specs.Scan.{scanned_of}
-use Rattle.nodes.specs.declared.reader.Here.TheVariants.{Node}
 use Rattle.nodes.proofs.Reached.{symbol-here, place-next, begun, onward, ended}
 use Rattle.nodes.proofs.scan_nodes.Goals as goal
 
@@ -15,7 +14,7 @@ loop-symbol-init c =
 pub loop-symbol-smaller : goal.loop-symbol-smaller
 loop-symbol-smaller c =
     let i = c.loop-symbol.invariant in
-    let h = symbol-here _ _ _ (c.in-Node.ensures ∙ ap (λ s. node_at s c.loop-symbol.reader.at) i.0) in
+    let h = symbol-here _ _ _ (c.in-Some.ensures ∙ ap (λ s. node_at s c.loop-symbol.reader.at) i.0) in
     let e = c.moved_on-reader.ensures.1 ∙ ap (λ s. place_after s c.loop-symbol.reader.at) i.0 ∙ place-next _ _ h.0 in
     omega (arith, h.0, e)
 
@@ -23,17 +22,17 @@ pub loop-symbol-preserved : goal.loop-symbol-preserved
 loop-symbol-preserved c =
     let i = c.loop-symbol.invariant in
     let p = i.1.0 in
-    let h : Node c.in-Node.symbol ≡ node_at c.args.symbols.now p.place = c.in-Node.ensures ∙ ap₂ node_at i.0 (sym i.1.1) in
+    let h : Some c.in-Some.symbol ≡ node_at c.args.symbols.now p.place = c.in-Some.ensures ∙ ap₂ node_at i.0 (sym i.1.1) in
     let e = c.moved_on-reader.ensures.1 ∙ ap₂ place_after i.0 (sym i.1.1) ∙ place-next _ _ (symbol-here _ _ _ h).0 in (
       ap (λ b. b.now) c.moved_on-reader.ensures.0 ∙ i.0,
       (
-        onward c.args.signature c.args.symbols.now p c.in-Node.symbol h,
+        onward c.args.signature c.args.symbols.now p c.in-Some.symbol h,
         sym e,
-        ap (λ x. scanned_of c.args.signature x c.in-Node.symbol.0) i.1.2 ∙ sym c.scanned-scan.ensures,
+        ap (λ x. scanned_of c.args.signature x c.in-Some.symbol.0) i.1.2 ∙ sym c.scanned-scan.ensures,
       ),
     )
 
-pub returns-in-End : goal.returns-in-End
-returns-in-End c =
+pub returns : goal.returns
+returns c =
     let i = c.loop-symbol.invariant in
-    sym i.1.2 ∙ ended c.args.signature c.args.symbols.now i.1.0 (c.in-End.ensures ∙ ap₂ node_at i.0 (sym i.1.1))
+    sym i.1.2 ∙ ended c.args.signature c.args.symbols.now i.1.0 (c.in_default.ensures ∙ ap₂ node_at i.0 (sym i.1.1))

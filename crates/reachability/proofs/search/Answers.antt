@@ -2,7 +2,6 @@
 -- Assumes nothing.
 -- the words are as many as they were
 -- the node that is taken is one of the tree
-use Prim.Native.Nat.{◌<◌}
 use native.Mathlib.Omega.{arith}
 use mathlib.Core.Path.{◌≡◌, refl, ◌∙◌}
 use lib.ListN.{length, length-set}
@@ -27,52 +26,52 @@ bounds-reached-0-in-loop-reached c =
     let reached-same : length c.loop-reached.reached ≡ length c.args.reached.now = c.loop-reached.invariant.0 ∙ length-set c.args.reached.now 0 c.args.header.initial in
     omega (arith, reached-same, c.requires.0, c.requires.4)
 
-pub pop-popped-requires : goal.pop-popped-requires
-pop-popped-requires c =
+pub pop-requires : goal.pop-requires
+pop-requires c =
     let fresh-same : length c.loop-reached.fresh ≡ length c.args.fresh.now = c.loop-reached.invariant.1 ∙ length-set c.args.fresh.now 0 c.args.header.initial in
     (omega (arith, fresh-same, c.requires.5), c.loop-reached.invariant.3)
 
-pub shape_of-reached-then-node-symbols : goal.shape_of-reached-then-node-symbols
-shape_of-reached-then-node-symbols c =
+pub shape_of-reached-in_default : goal.shape_of-reached-in_default
+shape_of-reached-in_default c =
     let reached-same : length c.loop-reached.reached ≡ length c.args.reached.now = c.loop-reached.invariant.0 ∙ length-set c.args.reached.now 0 c.args.header.initial in
     reached-same
 
-pub shape_of-fresh-then-node-symbols : goal.shape_of-fresh-then-node-symbols
-shape_of-fresh-then-node-symbols c =
+pub shape_of-fresh-in_default : goal.shape_of-fresh-in_default
+shape_of-fresh-in_default c =
     let fresh-same : length c.loop-reached.fresh ≡ length c.args.fresh.now = c.loop-reached.invariant.1 ∙ length-set c.args.fresh.now 0 c.args.header.initial in
     fresh-same
 
-pub shape_of-waiting-then-node-symbols : goal.shape_of-waiting-then-node-symbols
-shape_of-waiting-then-node-symbols c = c.loop-reached.invariant.2
+pub shape_of-waiting-in_default : goal.shape_of-waiting-in_default
+shape_of-waiting-in_default c = c.loop-reached.invariant.2
 
-pub returns-then-node-symbols : goal.returns-then-node-symbols
-returns-then-node-symbols c =
+pub returns-in_default : goal.returns-in_default
+returns-in_default c =
     let at = c in
     let start = at in (
       λ e. clash (cc),
-      λ f. absurd (not_found _ _ _ _ _ at.loop-reached.invariant.4 start.args.header.accepting start.requires.0 (c.pop-popped.ensures.1.none c.if-node-symbols.true) c.loop-reached-test.true f),
+      λ f. absurd (not_found _ _ _ _ _ at.loop-reached.invariant.4 start.args.header.accepting start.requires.0 (rw c.in_default.is at c.pop.ensures) c.loop-reached-test.true f),
     )
 
 pub turn-height-requires : goal.turn-height-requires
 turn-height-requires c =
     let reached-same : length c.loop-reached.reached ≡ length c.args.reached.now = c.loop-reached.invariant.0 ∙ length-set c.args.reached.now 0 c.args.header.initial in
     let fresh-same : length c.loop-reached.fresh ≡ length c.args.fresh.now = c.loop-reached.invariant.1 ∙ length-set c.args.fresh.now 0 c.args.header.initial in
-    let taken-node : c.pop-popped.result.node < length c.args.symbols.now = omega (arith, c.pop-popped.ensures.1.within, c.if-node-symbols.false) in
+    let taken = rw c.in-Some.is at c.pop.ensures in
     let p = c.requires in (
-      taken-node,
+      taken.1.0,
       p.1,
       p.2,
       p.3,
       omega (arith, p.4, reached-same),
       omega (arith, p.5, fresh-same),
-      c.pop-popped.ensures.0,
+      taken.0,
       p.6 _,
     )
 
 pub loop-reached-smaller : goal.loop-reached-smaller
 loop-reached-smaller c =
-    let taken-node : c.pop-popped.result.node < length c.args.symbols.now = omega (arith, c.pop-popped.ensures.1.within, c.if-node-symbols.false) in
-    c.turn-height.ensures.1.falls (c.pop-popped.ensures.1.some (taken-node))
+    let taken = rw c.in-Some.is at c.pop.ensures in
+    c.turn-height.ensures.1.falls taken.1.1
 
 pub loop-reached-preserved : goal.loop-reached-preserved
 loop-reached-preserved c =

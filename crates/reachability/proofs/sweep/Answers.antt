@@ -5,13 +5,13 @@ use Rattle.reachability.proofs.Ending.{none_more}
 use Rattle.reachability.proofs.sweep.Goals as goal
 
 pub loop-node-init : goal.loop-node-init
-loop-node-init c = (omega arith, λ i l. absurd (omega arith))
+loop-node-init c = λ i l. absurd (omega arith)
 
 pub returns-then-fresh-node-ne0 : goal.returns-then-fresh-node-ne0
-returns-then-fresh-node-ne0 c = record { within = omega arith; some = λ l. omega (arith, c.if-fresh-node-ne0.true); none = λ e i l. absurd (omega arith) }
+returns-then-fresh-node-ne0 c = (c.loop-node-test.true, omega (arith, c.if-fresh-node-ne0.true))
 
 pub loop-node-preserved : goal.loop-node-preserved
-loop-node-preserved c = (omega arith, none_more c.args.fresh.now c.loop-node.node c.loop-node.invariant.1 (omega (arith, c.if-fresh-node-ne0.false)))
+loop-node-preserved c = none_more c.args.fresh.now c.loop-node.node c.loop-node.invariant (omega (arith, c.if-fresh-node-ne0.false))
 
 pub returns : goal.returns
-returns c = record { within = omega arith; some = λ l. absurd (omega arith); none = λ e i l. c.loop-node.invariant.1 i (omega arith) }
+returns c = λ i l. c.loop-node.invariant i (omega arith)

@@ -1,6 +1,5 @@
 -- `reporting::print` meets its contract: the text is handed on.
 -- Assumes nothing.
-use borrow.Author.Rules.{rules}
 use Rattle.reporting.specs.Trace.{was_handed}
 use Rattle.reporting.proofs.print.Goals as goal
 

@@ -1,6 +1,5 @@
 -- `reporting::print_head` meets its contract: the text stands at the buffer's front.
 -- Assumes nothing.
-use borrow.Author.Rules.{rules}
 use Rattle.reporting.proofs.Laws.{handed-text}
 use Rattle.reporting.proofs.print_head.Goals as goal
 

@@ -1,6 +1,5 @@
 -- `reporting::print_refused` meets its contract: the text stands at the buffer's front.
 -- Assumes nothing.
-use borrow.Author.Rules.{rules}
 use native.Mathlib.Omega.{arith}
 use mathlib.Core.Path.{sym}
 use lib.Seq.{length-take-le}

@@ -1,6 +1,5 @@
 -- `reporting::read_part` meets its contract: what was asked, and the bytes before stay.
 -- Assumes nothing.
-use borrow.Author.Rules.{rules}
 use Prim.Native.Nat.{◌-◌, ◌≤◌}
 use Rattle.reporting.specs.Trace.{read_gave}
 use native.Mathlib.Omega.{arith}

@@ -1,8 +1,7 @@
 -- `reporting::tally_files` meets its contract: its tables are a cache of every automaton.
 -- Assumes nothing.
-use borrow.Author.Rules.{rules}
-use Rattle.batch.proofs.Tallying.{begins}
+use Rattle.batch.proofs.Tallying.{fresh-cached}
 use Rattle.reporting.proofs.tally_files.Goals as goal
 
 pub returns : goal.returns
-returns c A k = c.tally_pieces.ensures A k (begins A)
+returns c A k = c.tally_pieces.ensures A k (fresh-cached A _ c.fresh-cache.ensures)

@@ -1,6 +1,5 @@
 -- `reporting::tally_pieces` meets its contract. The invariant: what was read comes to what the tally and the bytes that are held come to (`Reading`).
 -- Assumes nothing.
-use borrow.Author.Rules.{rules}
 use Prim.Native.Nat.{ℕ, ◌+◌, ◌-◌, ◌≤◌, ◌<◌}
 use native.Mathlib.Omega.{arith}
 use mathlib.Core.Path.{◌≡◌, sym, ◌∙◌}

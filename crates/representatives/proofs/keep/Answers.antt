@@ -12,13 +12,11 @@ returns-then-is_known c = (search rules, λ A kept d s o x. keep_known A _ _ kep
 
 pub returns-then-n-eq64 : goal.returns-then-n-eq64
 returns-then-n-eq64 c =
-    let known = c in
-    (search rules, λ A kept d s o x. keep-over A _ _ kept d s (search rules) (searched A _ _ kept d _ s (search rules) x known.is_known.ensures known.if-is_known.false))
+    (search rules, λ A kept d s o x. keep-over A _ _ kept d s (search rules) (searched A _ _ kept d _ s (search rules) x c.is_known.ensures c.if-is_known.false))
 
 pub returns : goal.returns
-returns c =
-    let known = c in (
-      search rules,
-      λ A kept d s o x. keep-new A _ _ kept d s _ (search rules) _ _ o x c.store.ensures
-          (searched A _ _ kept d _ s (search rules) x known.is_known.ensures known.if-is_known.false),
-    )
+returns c = (
+  search rules,
+  λ A kept d s o x. keep-new A _ _ kept d s _ (search rules) _ _ o x c.store.ensures
+      (searched A _ _ kept d _ s (search rules) x c.is_known.ensures c.if-is_known.false),
+)

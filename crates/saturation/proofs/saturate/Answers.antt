@@ -1,7 +1,5 @@
 -- `saturation::saturate` meets its contract. The invariant: the tables as a round begins, and what the rounds from here on say.
 -- Assumes nothing.
--- the rows as the round begins are marked
--- what the round tried, whatever the rows are
 use borrow.Author.Rules.{rules}
 use Rattle.saturation.proofs.Ending.{begins, ends_found, ends_open, ends-empty, goes_on}
 use Rattle.saturation.proofs.saturate.Goals as goal

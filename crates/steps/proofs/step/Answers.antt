@@ -12,6 +12,6 @@ pub returns : goal.returns
 returns c =
     let a = c.args in
     c.go.ensures
-    ∙ ap (λ (k : ℕ). goes a.parents.now a.rights.now a.node (decoded (get_or a.choices.now k 0)))
+    ∙ ap (λ (k : ℕ). goes a.parents.now a.rights.now a.from.node (decoded (get_or a.choices.now k 0)))
     (c.choice_cell-cell.ensures.0
-    ∙ ap (λ (τ : Place). choice_cell (get_or a.nodes.now a.node 0) τ a.state.0) c.place_at-place.ensures)
+    ∙ ap (λ (τ : Place). choice_cell (get_or a.nodes.now a.from.node 0) τ a.from.state.0) c.place_at-place.ensures)

@@ -9,8 +9,8 @@ pub returns-then-node-eq0 : goal.returns-then-node-eq0
 unfolding decoded
 returns-then-node-eq0 c = let q = c.requires in λ rights. rw (le-ltb _ 32 q.1, lt-ltb _ 64 q.2, eq-eqb _ 0 c.if-node-eq0.true)
 
-pub overflow_cast-result : goal.overflow_cast-result
-overflow_cast-result c = omega (arith, c.type_inv.parents c.args.node)
+pub overflow_cast-parent : goal.overflow_cast-parent
+overflow_cast-parent c = omega (arith, c.type_inv.parents c.args.node)
 
 pub returns : goal.returns
 unfolding decoded

@@ -1,6 +1,5 @@
 -- `tags::byte_at` meets its contract.
 -- Assumes nothing.
-use borrow.Author.Rules.{rules}
 use mathlib.Core.Path.{sym}
 use lib.ListN.{get_or-eq_default}
 use Rattle.tags.proofs.byte_at.Goals as goal

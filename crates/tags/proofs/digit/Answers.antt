@@ -1,6 +1,5 @@
 -- `tags::digit` meets its contract.
 -- Assumes nothing.
-use borrow.Author.Rules.{rules}
 use mathlib.Core.Path.{sym, ◌∙◌}
 use native.Mathlib.Omega.{arith}
 use Rattle.tags.proofs.Listed.{digit-small, no_digit}

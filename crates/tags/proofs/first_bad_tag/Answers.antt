@@ -1,13 +1,9 @@
 -- `tags::first_bad_tag` meets its contract.
 -- Assumes nothing.
 use borrow.Author.Rules.{rules}
-use Prim.Native.Nat.{◌-◌, ◌≤◌}
-use mathlib.Core.Path.{◌≡◌, sym, ◌∙◌}
+use mathlib.Core.Path.{sym, ◌∙◌}
 use native.Mathlib.Nat.{sub-zero}
-use lib.ListN.{length}
-use Rattle.blocks.specs.Search.{lowest, lowest_from}
 use Rattle.blocks.proofs.Laws.{lowest-passed, lowest-hit, lowest-none}
-use Rattle.tags.specs.Tags.{bad_tag}
 use Rattle.tags.proofs.first_bad_tag.Goals as goal
 
 pub loop-at-init : goal.loop-at-init

@@ -1,17 +1,11 @@
 -- `tags::first_bad_tag` meets its contract.
 -- Assumes nothing.
-use borrow.Author.Rules.{rules}
 use Prim.Native.Nat.{◌-◌, ◌≤◌}
-use mathlib.Core.Path.{◌≡◌, sym, ◌∙◌}
-use native.Mathlib.Nat.{sub-zero}
+use mathlib.Core.Path.{◌≡◌}
 use lib.ListN.{length}
 use Rattle.blocks.specs.Search.{lowest, lowest_from}
-use Rattle.blocks.proofs.Laws.{lowest-passed, lowest-hit, lowest-none}
 use Rattle.tags.specs.Tags.{bad_tag}
 use Rattle.tags.proofs.first_bad_tag.Given as goal
 
 abbrev pub invariant-loop-at : goal.invariant-loop-at
 invariant-loop-at l = (l.at ≤ length l.text) × (lowest (bad_tag l.branches l.text) (length l.text) ≡ lowest_from (bad_tag l.branches l.text) l.at (length l.text - l.at))
-
-abbrev pub decreases-loop-at : goal.decreases-loop-at
-decreases-loop-at l = length l.text - l.at

@@ -1,6 +1,5 @@
 -- `tags::is_bad_tag` meets its contract.
 -- Assumes nothing.
-use borrow.Author.Rules.{rules}
 use mathlib.Core.Path.{ap, ◌∙◌}
 use borrow.Author.Tests.{eq-eqb, ne_eqb}
 use Rattle.tags.specs.Tags.{bad_tag, no_branch}

@@ -1,6 +1,5 @@
 -- `tags::no_branch` meets its contract.
 -- Assumes nothing.
-use borrow.Author.Rules.{rules}
 use mathlib.Core.Path.{ap}
 use mathlib.Core.Bool.{not}
 use Rattle.tags.proofs.no_branch.Goals as goal

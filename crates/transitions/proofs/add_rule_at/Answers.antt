@@ -12,8 +12,8 @@ returns-in_default c = rw (sym c.rule_at.ensures ∙ c.in_default.is) (unknown-a
 
 pub add_rule-requires : goal.add_rule-requires
 add_rule-requires c =
-    let h = rule-in _ _ _ _ (sym c.rule_at.ensures ∙ c.in-Known.is) in
+    let h = rule-in _ _ _ _ (sym c.rule_at.ensures ∙ c.in-Some.is) in
     (search rules, record { symbol = omega (arith, h.symbol); state = omega (arith, h.state); next = omega (arith, h.next) })
 
 pub returns : goal.returns
-returns c = rw (sym c.rule_at.ensures ∙ c.in-Known.is) c.add_rule.ensures
+returns c = rw (sym c.rule_at.ensures ∙ c.in-Some.is) c.add_rule.ensures

@@ -1,6 +1,6 @@
 -- `tree_writer::write_payload` meets its contract.
 -- Assumes nothing.
-use Prim.Native.Nat.{◌-◌, ◌≤◌}
+use Prim.Native.Nat.{◌≤◌}
 use mathlib.Core.Path.{◌≡◌}
 use mathlib.Core.List.{◌++◌}
 use lib.ListN.{length, take, drop}
@@ -9,6 +9,3 @@ use Rattle.tree_writer.proofs.write_payload.Given as goal
 
 abbrev pub invariant-loop-i : goal.invariant-loop-i
 invariant-loop-i l = (l.i ≤ l.len) × (length l.payload ≡ length l.initial.payload) × (l.payload ≡ take l.i (payload_of l.nodes) ++ drop l.i l.initial.payload)
-
-abbrev pub decreases-loop-i : goal.decreases-loop-i
-decreases-loop-i l = l.len - l.i

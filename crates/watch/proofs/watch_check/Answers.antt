@@ -14,7 +14,7 @@ use Rattle.algorithms.specs.Automaton.{Automaton}
 use Rattle.automaton.specs.declared.Header.{Header}
 use Rattle.overloops.specs.Ready.{Headed}
 use Rattle.determinism.specs.Determined.{determined}
-use Rattle.watch.proofs.Checking.{told-single, told-other, check-multiple, check-starts, check-budget, check-room, check-passes}
+use Rattle.watch.proofs.Checking.{told-single, told-multiple, check-multiple, check-starts, check-budget, check-room, check-passes}
 use Rattle.watch.proofs.watch_check.Goals as goal
 
 pub returns-in_default : goal.returns-in_default
@@ -22,7 +22,7 @@ returns-in_default c =
     λ A k.
     c.refused.ensures
     ∙ check-multiple (determined A) A _ _
-    (told-other (determined A) _ c.in_default.not-Single
+    (told-multiple (determined A) c.in_default.is
     (c.single_prepared.ensures A k.tabled.compiled k.symbols k.tabled.states))
 
 pub overflow_cast-starts : goal.overflow_cast-starts
@@ -34,7 +34,7 @@ pub returns-then-starts-ne1 : goal.returns-then-starts-ne1
 returns-then-starts-ne1 c =
     let header : Header = c.args.header in
     let table : List ℕ = c.args.table.now in
-    let single-is : (A : Automaton) → Headed A header table → determined A ≡ true = λ A k. told-single (determined A) _ c.in-Single.is
+    let single-is : (A : Automaton) → Headed A header table → determined A ≡ true = λ A k. told-single (determined A) c.in-Single.is
     (c.single_prepared.ensures A k.tabled.compiled k.symbols k.tabled.states) in
     let starts-are : (A : Automaton) → Headed A header table → ones header.initial ≡ ones A.initial = λ A k. ap ones (sym k.initial) in
     λ A k.
@@ -44,7 +44,7 @@ pub returns-then-budget-gt20000 : goal.returns-then-budget-gt20000
 returns-then-budget-gt20000 c =
     let header : Header = c.args.header in
     let table : List ℕ = c.args.table.now in
-    let single-is : (A : Automaton) → Headed A header table → determined A ≡ true = λ A k. told-single (determined A) _ c.in-Single.is
+    let single-is : (A : Automaton) → Headed A header table → determined A ≡ true = λ A k. told-single (determined A) c.in-Single.is
     (c.single_prepared.ensures A k.tabled.compiled k.symbols k.tabled.states) in
     let starts-are : (A : Automaton) → Headed A header table → ones header.initial ≡ ones A.initial = λ A k. ap ones (sym k.initial) in
     λ A k.
@@ -54,7 +54,7 @@ pub returns-then-room-budget : goal.returns-then-room-budget
 returns-then-room-budget c =
     let header : Header = c.args.header in
     let table : List ℕ = c.args.table.now in
-    let single-is : (A : Automaton) → Headed A header table → determined A ≡ true = λ A k. told-single (determined A) _ c.in-Single.is
+    let single-is : (A : Automaton) → Headed A header table → determined A ≡ true = λ A k. told-single (determined A) c.in-Single.is
     (c.single_prepared.ensures A k.tabled.compiled k.symbols k.tabled.states) in
     let starts-are : (A : Automaton) → Headed A header table → ones header.initial ≡ ones A.initial = λ A k. ap ones (sym k.initial) in
     λ A k.
@@ -65,7 +65,7 @@ pub returns : goal.returns
 returns c =
     let header : Header = c.args.header in
     let table : List ℕ = c.args.table.now in
-    let single-is : (A : Automaton) → Headed A header table → determined A ≡ true = λ A k. told-single (determined A) _ c.in-Single.is
+    let single-is : (A : Automaton) → Headed A header table → determined A ≡ true = λ A k. told-single (determined A) c.in-Single.is
     (c.single_prepared.ensures A k.tabled.compiled k.symbols k.tabled.states) in
     let starts-are : (A : Automaton) → Headed A header table → ones header.initial ≡ ones A.initial = λ A k. ap ones (sym k.initial) in
     λ A k.

@@ -1,6 +1,5 @@
 -- `wording::put_head` meets its contract: the three lines, one after the other.
 -- Assumes nothing.
-use borrow.Author.Rules.{rules}
 use native.Mathlib.Omega.{arith}
 use Rattle.text.proofs.Laws.{then}
 use Rattle.wording.proofs.put_head.Goals as goal

@@ -1,6 +1,5 @@
 -- `wording::put_verdict` meets its contract: one after the other.
 -- Assumes nothing.
-use borrow.Author.Rules.{rules}
 use native.Mathlib.Omega.{arith}
 use Rattle.text.proofs.Laws.{then}
 use Rattle.wording.specs.ReportLines.{verdict_line}

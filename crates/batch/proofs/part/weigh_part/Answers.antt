@@ -25,28 +25,28 @@ loop-more-init c = (omega arith, refl, omega arith, omega arith, λ A k h. (h, b
 pub returns-then-room-lt3 : goal.returns-then-room-lt3
 returns-then-room-lt3 c = let v = c.loop-more.invariant in (v.0, v.1, v.2, v.3, (λ e. inr (omega (arith, v.0, v.1, c.if-room-lt3.true))), v.4, v.5, v.6, v.7)
 
-pub returns-then-length-eq0 : goal.returns-then-length-eq0
-returns-then-length-eq0 c = let v = c.loop-more.invariant in (v.0, v.1, v.2, v.3, (λ e. inl (c.whole_length-length.ensures.1 c.if-length-eq0.true)), v.4, v.5, v.6, v.7)
+pub returns-in_default : goal.returns-in_default
+returns-in_default c = let v = c.loop-more.invariant in (v.0, v.1, v.2, v.3, (λ e. inl (c.whole_length.ensures.1 c.in_default.is)), v.4, v.5, v.6, v.7)
 
 pub overflow_add-end : goal.overflow_add-end
-overflow_add-end c = let n = c.whole_length-length.ensures.0 (omega (arith, c.if-length-eq0.false)) in omega (arith, n.2, c.well_formed)
+overflow_add-end c = let n = c.whole_length.ensures.0 _ c.in-Some.is in omega (arith, n.2, c.well_formed)
 
 pub slice_bounds-judge_one-end : goal.slice_bounds-judge_one-end
-slice_bounds-judge_one-end c = (c.whole_length-length.ensures.0 (omega (arith, c.if-length-eq0.false))).2
+slice_bounds-judge_one-end c = (c.whole_length.ensures.0 _ c.in-Some.is).2
 
 pub judge_one-more-requires : goal.judge_one-more-requires
 judge_one-more-requires c = let v = c.loop-more.invariant in (c.requires, omega (arith, v.0, c.if-room-lt3.false))
 
 pub loop-more-smaller : goal.loop-more-smaller
-loop-more-smaller c = let n = c.whole_length-length.ensures.0 (omega (arith, c.if-length-eq0.false)) in omega (arith, n.1, n.2)
+loop-more-smaller c = let n = c.whole_length.ensures.0 _ c.in-Some.is in omega (arith, n.1, n.2)
 
 pub loop-more-preserved : goal.loop-more-preserved
 loop-more-preserved c =
     let l = c.loop-more in
     let v = l.invariant in
     let args = c.args in
-    let size = c.whole_length-length.result in
-    let n = c.whole_length-length.ensures.0 (omega (arith, c.if-length-eq0.false)) in
+    let size = c.in-Some.length in
+    let n = c.whole_length.ensures.0 _ c.in-Some.is in
     let told = c.judge_one-more.ensures in
     let room : 3 * l.files + 3 ≤ length l.answers = omega (arith, v.0, c.if-room-lt3.false) in (
       omega (arith, told.0, room),

@@ -1,10 +1,7 @@
 -- `chains::leaving::end_of` ends, after 65 nodes at most.
 -- Assumes nothing.
-use Prim.Native.Nat.{◌-◌, ◌≤◌}
+use Prim.Native.Nat.{◌≤◌}
 use Rattle.chains.proofs.leaving.end_of.Given as goal
 
 abbrev pub invariant-loop : goal.invariant-loop
 invariant-loop l = l.counter ≤ 65
-
-abbrev pub decreases-loop : goal.decreases-loop
-decreases-loop l = 65 - l.counter

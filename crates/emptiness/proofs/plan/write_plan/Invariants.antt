@@ -1,6 +1,6 @@
 -- `emptiness::plan::write_plan` meets its contract.
 -- Assumes nothing.
-use Prim.Native.Nat.{◌*◌, ◌-◌, ◌≤◌}
+use Prim.Native.Nat.{◌*◌, ◌≤◌}
 use mathlib.Core.Path.{◌≡◌}
 use mathlib.Core.List.{◌++◌}
 use lib.ListN.{length, drop}
@@ -10,6 +10,3 @@ use Rattle.emptiness.proofs.plan.write_plan.Given as goal
 
 abbrev pub invariant-loop-i : goal.invariant-loop-i
 invariant-loop-i l = (length l.plan ≡ length l.initial.plan) × (l.i ≤ l.n) × (l.plan ≡ plan_bytes (origins_in l.rows l.i) ++ drop (3 * l.i) l.initial.plan)
-
-abbrev pub decreases-loop-i : goal.decreases-loop-i
-decreases-loop-i l = l.n - l.i

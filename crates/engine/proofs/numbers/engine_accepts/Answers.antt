@@ -1,6 +1,5 @@
 -- `engine::numbers::engine_accepts` meets its contract: it is `accepts`, with the answer as numbers; that answer meets the demand.
 -- Assumes nothing.
-use borrow.Author.Rules.{rules}
 use mathlib.Core.Path.{ap, ◌∙◌}
 use Rattle.numbering.specs.Numbers.{answer_number, answer_told}
 use Rattle.engine.proofs.numbers.engine_accepts.Goals as goal

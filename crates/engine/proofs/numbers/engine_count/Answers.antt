@@ -1,6 +1,5 @@
 -- `engine::numbers::engine_count` meets its contract: it is `count_held`, with the tally and the answer as numbers.
 -- Assumes nothing.
-use borrow.Author.Rules.{rules}
 use mathlib.Core.Path.{ap, ◌∙◌}
 use Rattle.tally.specs.Tally.{counted_up}
 use Rattle.tally.specs.declared.Tallied.{Tallied}

@@ -1,6 +1,5 @@
 -- `engine::numbers::engine_judge` meets its contract: it is `judge`, with the answer and its sum as numbers; that answer meets the demand.
 -- Assumes nothing.
-use borrow.Author.Rules.{rules}
 use mathlib.Core.Path.{ap, ◌∙◌}
 use Rattle.membership.specs.declared.Judged.{Judged}
 use Rattle.numbering.specs.Numbers.{answer_number, answer_told, growth_numbers}

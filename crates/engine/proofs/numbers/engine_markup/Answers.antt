@@ -1,9 +1,8 @@
 -- `engine::numbers::engine_markup` meets its contract: it is `markup`, with the answer as numbers; that answer meets the promise.
 -- Assumes nothing.
-use borrow.Author.Rules.{rules}
 use mathlib.Core.Path.{ap, ◌∙◌}
 use Rattle.block_writer.specs.Written.{Filled}
-use Rattle.numbering.specs.Numbers.{written_number, written_told}
+use Rattle.numbering.specs.Numbers.{count_number, count_told}
 use Rattle.engine.proofs.numbers.engine_markup.Goals as goal
 
 pub returns : goal.returns
@@ -11,9 +10,9 @@ returns c =
     let answer = c.markup in
     let e = answer.ensures.equals in record {
       equals = (
-        c.put_written.ensures.0 ∙ ap (λ (o : Filled). written_number o.answer) e,
-        c.put_written.ensures.1 ∙ ap (λ (o : Filled). written_told o.answer) e,
+        c.put_count.ensures.0 ∙ ap (λ (o : Filled). count_number o.answer) e,
+        c.put_count.ensures.1 ∙ ap (λ (o : Filled). count_told o.answer) e,
         ap (λ (o : Filled). o.out) e,
       );
-      right = (answer.result, c.put_written.ensures.0, c.put_written.ensures.1, answer.ensures.right);
+      right = (answer.result, c.put_count.ensures.0, c.put_count.ensures.1, answer.ensures.right);
     }

@@ -1,6 +1,5 @@
 -- `engine::numbers::engine_quick` meets its contract: it is `quick`, with the answer as numbers; that answer meets the demand.
 -- Assumes nothing.
-use borrow.Author.Rules.{rules}
 use mathlib.Core.Path.{ap, ◌∙◌}
 use Rattle.numbering.specs.Numbers.{quick_number, quick_told}
 use Rattle.engine.proofs.numbers.engine_quick.Goals as goal

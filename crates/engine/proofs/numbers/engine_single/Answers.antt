@@ -1,6 +1,5 @@
 -- `engine::numbers::engine_single` meets its contract: it is `single`, with the answer as numbers; that answer is right.
 -- Assumes nothing.
-use borrow.Author.Rules.{rules}
 use mathlib.Core.Path.{ap, ◌∙◌}
 use Rattle.numbering.specs.Numbers.{single_number, single_told}
 use Rattle.engine.proofs.numbers.engine_single.Goals as goal

@@ -1,6 +1,5 @@
 -- `engine::numbers::engine_survey` meets its contract: it is `survey`, with the answer as numbers; that answer meets the demand.
 -- Assumes nothing.
-use borrow.Author.Rules.{rules}
 use mathlib.Core.Path.{ap, ◌∙◌}
 use Rattle.emptiness.specs.Surveyed.{Answered}
 use Rattle.numbering.specs.Numbers.{survey_number, survey_told}

@@ -1,6 +1,5 @@
 -- `engine::numbers::engine_tally` meets its contract: it is `tally`, with the tally and the answer as numbers.
 -- Assumes nothing.
-use borrow.Author.Rules.{rules}
 use mathlib.Core.Path.{ap, ◌∙◌}
 use Rattle.tally.specs.declared.Tallied.{Tallied}
 use Rattle.numbering.specs.Numbers.{tally_numbers, check_number, check_told}

@@ -1,6 +1,5 @@
 -- `engine::numbers::engine_watch` meets its contract: it is `watch`, with the answer as numbers; that answer meets the promise.
 -- Assumes nothing.
-use borrow.Author.Rules.{rules}
 use mathlib.Core.Path.{ap, ◌∙◌}
 use Rattle.watch.specs.Watch.{Outcome}
 use Rattle.numbering.specs.Numbers.{watch_number, watch_told}

@@ -1,10 +1,7 @@
 -- `enumerated::lists::accepts_some` ends, after one turn for each tree.
 -- Assumes nothing.
-use Prim.Native.Nat.{◌-◌, ◌≤◌}
+use Prim.Native.Nat.{◌≤◌}
 use Rattle.enumerated.proofs.lists.accepts_some.Given as goal
 
 abbrev pub invariant-loop-row : goal.invariant-loop-row
 invariant-loop-row l = l.from ≤ l.row
-
-abbrev pub decreases-loop-row : goal.decreases-loop-row
-decreases-loop-row l = l.to - l.row

@@ -1,10 +1,7 @@
 -- `followed::follow::configurations` ends, after one turn for each state.
 -- Assumes nothing.
-use Prim.Native.Nat.{◌-◌, ◌≤◌}
+use Prim.Native.Nat.{◌≤◌}
 use Rattle.followed.proofs.follow.configurations.Given as goal
 
 abbrev pub invariant-loop : goal.invariant-loop
 invariant-loop l = l.counter ≤ l.end
-
-abbrev pub decreases-loop : goal.decreases-loop
-decreases-loop l = l.end - l.counter

@@ -1,12 +1,9 @@
 -- `relation::Relation::without` meets its contract: the loop replaces each row by that of `without`. Assumes nothing.
 use mathlib.Core.Path.{◌≡◌}
-use Prim.Native.Nat.{◌≤◌, ◌-◌}
+use Prim.Native.Nat.{◌≤◌}
 use Rattle.relation.specs.Growth.{without}
 use Rattle.relation.proofs.Over.{over}
 use Rattle.relation.proofs.Relation.without.Given as goal
 
 abbrev pub invariant-loop-p : goal.invariant-loop-p
 invariant-loop-p l = (l.p ≤ 24) × (l.self.rows ≡ over (without l.initial.self.rows l.other.rows) l.initial.self.rows l.p)
-
-abbrev pub decreases-loop-p : goal.decreases-loop-p
-decreases-loop-p l = 24 - l.p

@@ -1,10 +1,7 @@
 -- `crate::walk::rounds` ends, after 24,577 rounds at most.
 -- Assumes nothing.
-use Rattle.std.proofs.Common.{◌≡◌, ◌-◌, ◌≤◌, length}
+use Rattle.std.proofs.Common.{◌≡◌, ◌≤◌, length}
 use Rattle.search.proofs.walk.rounds.Given as goal
 
 abbrev pub invariant-loop : goal.invariant-loop
 invariant-loop l = (l.counter ≤ 24577) × (length l.reached ≡ length l.initial.reached)
-
-abbrev pub decreases-loop : goal.decreases-loop
-decreases-loop l = 24577 - l.counter

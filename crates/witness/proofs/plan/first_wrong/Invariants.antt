@@ -8,6 +8,3 @@ use Rattle.witness.proofs.plan.first_wrong.Given as goal
 
 abbrev pub invariant-loop-i : goal.invariant-loop-i
 invariant-loop-i l = (l.i ≤ l.rows) × (lowest (row_wrong l.signature l.plan) l.rows ≡ lowest_from (row_wrong l.signature l.plan) l.i (l.rows - l.i))
-
-abbrev pub decreases-loop-i : goal.decreases-loop-i
-decreases-loop-i l = l.rows - l.i

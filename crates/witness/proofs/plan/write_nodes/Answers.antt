@@ -13,8 +13,7 @@ use Rattle.witness.proofs.plan.write_nodes.Goals as goal
 
 pub returns : goal.returns
 returns c =
-    let q = c in
-    let t = plan_tree q.args.plan.now in
+    let t = plan_tree c.args.plan.now in
     let e = c.write_row.ensures in
     let n : c.write_row.result ≡ size t = omega (arith, e.0) in
-    (n, e.1 ∙ front-written t q.args.nodes.now q.requires.1 ∙ ap (λ (k : ℕ). preorder t ++ drop k q.args.nodes.now) (sym n))
+    (n, e.1 ∙ front-written t c.args.nodes.now c.requires.1 ∙ ap (λ (k : ℕ). preorder t ++ drop k c.args.nodes.now) (sym n))

@@ -1,0 +1,2 @@
+-- Lemmas for the answers.
+pub mod Told
