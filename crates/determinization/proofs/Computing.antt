@@ -108,3 +108,12 @@ node-computed A σ l r i w g h counts counts' store store' maps cells cells' x y
     let node : Node A store' σ l r w =
     node-is A σ l r i w g h store store' x y is.left_rows is.right_rows (after.same l Side.Left hl) (after.same r Side.Right hr) has px py in
     (record { cached = keep after.cached (omega arith) (omega arith) known node; same = after.same; more = more }, λ some. (known, node))
+
+-- a cache of which the cells are others that are equal
+pub cells-moved : {A : Automaton} {counts store maps cells cells' : List ℕ} → cells' ≡ cells → CachedIn A counts store maps cells → CachedIn A counts store maps cells'
+cells-moved e k = rw e k
+
+-- what a call leaves, of which the maps and the cells are others that are equal
+pub after-moved : {A : Automaton} {counts store counts' store' maps maps' cells cells' : List ℕ} → maps' ≡ maps → cells' ≡ cells
+    → After A counts store counts' store' maps cells → After A counts store counts' store' maps' cells'
+after-moved e f x = rw (e, f) x

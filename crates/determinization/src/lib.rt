@@ -2,14 +2,14 @@
 // computed and kept.
 #![tactic(auto)]
 
-ghost use Rattle.std.specs.Prelude.{◌≡◌, true, ◌+◌, ◌<◌, ◌≤◌};
+ghost use Rattle.std.specs.Prelude.{◌≡◌, true, List, ℕ, ◌+◌, ◌<◌, ◌≤◌};
 ghost use Rattle.model.specs.declared.Place.{Place};
 ghost use Rattle.algorithms.specs.Automaton.{Automaton};
 ghost use Rattle.algorithms.specs.Overloops.{node_overloops};
 ghost use Rattle.algorithms.specs.Growth.{node_growth};
 ghost use Rattle.overloops.specs.Tables.{Tabled};
 ghost use Rattle.class_tables.specs.Classes.{rows_of, IsClass};
-ghost use Rattle.class_tables.specs.Cache.{Right, classes, Cached, AfterCall};
+ghost use Rattle.class_tables.specs.Cache.{Right, classes, CachedIn, Cached, After, AfterCall};
 
 use class_tables::{
     Cache, Store, class_rows, free_hint, hint_at, hinted, keep, mixed, put_side, word_around,
@@ -55,7 +55,8 @@ fn class_found(cache: &Cache, hint: usize, left: Relation, right: Relation) -> u
 // The class of two relations: one that is there, or one more; 1024 where there is no room.
 fn class_for(cache: &mut Cache, left: Relation, right: Relation) -> u32
     ensures { (cache.new.maps ≡ cache.old.maps) × (cache.new.cells ≡ cache.old.cells)
-        × ((A : Automaton) → Cached A cache.old → AfterCall A cache.old cache.new
+        × ((A : Automaton) (maps cells : List ℕ) → CachedIn A cache.old.counts cache.old.store maps cells
+        → After A cache.old.counts cache.old.store cache.new.counts cache.new.store maps cells
         × (result < 1024 → IsClass (classes cache.new.counts) cache.new.store result left.rows right.rows)) }
 {
     let hint = hint_at(0, mixed(mixed(0, left), right));

@@ -2,13 +2,13 @@
 // its parts lead to the class of a node.
 #![tactic(auto)]
 
-ghost use Rattle.std.specs.Prelude.{◌≡◌, true, ◌+◌, ◌<◌, ◌≤◌};
+ghost use Rattle.std.specs.Prelude.{◌≡◌, true, List, ℕ, ◌+◌, ◌<◌, ◌≤◌};
 ghost use Rattle.relation.specs.Rows.{composed};
 ghost use Rattle.algorithms.specs.Automaton.{Automaton};
 ghost use Rattle.algorithms.specs.Overloops.{moves};
 ghost use Rattle.transitions.specs.Compiled.{Compiled};
 ghost use Rattle.class_tables.specs.Classes.{rows_of};
-ghost use Rattle.class_tables.specs.Cache.{index_at, classes, Cached};
+ghost use Rattle.class_tables.specs.Cache.{index_at, classes, CachedIn};
 
 use class_tables::{Cache, class_rows, free_hint, hint_at, hinted, index_of, index_place, mixed};
 use model::{Move, Place, Side, State, Symbol};
@@ -135,8 +135,10 @@ fn class_like(
 pub fn map_class(table: &TransitionTable, symbol: Symbol, side: Side, class: u32, cache: &mut Cache)
     requires { (symbol.0 < 32) × (class < 1024) }
     ensures { (cache.new.store ≡ cache.old.store) × (cache.new.cells ≡ cache.old.cells)
-        × ((A : Automaton) → Compiled A table.now → Cached A cache.old → class < classes cache.old.counts
-        → Cached A cache.new × (classes cache.new.counts ≡ classes cache.old.counts)) }
+        × ((A : Automaton) (cells : List ℕ) → Compiled A table.now
+        → CachedIn A cache.old.counts cache.old.store cache.old.maps cells → class < classes cache.old.counts
+        → CachedIn A cache.new.counts cache.new.store cache.new.maps cells
+        × (classes cache.new.counts ≡ classes cache.old.counts)) }
 {
     let place = index_place(symbol, side, class);
     if cache.maps[place] != 0 {

@@ -1,8 +1,8 @@
 // What new classes a tree may bring. Trees add to a credit, those that are judged by the cache most, and each new class takes from it: where trees
 // keep bringing new ones, a cache costs more than it saves, and rests until there is credit again.
-ghost use Rattle.std.specs.Prelude.{◌≡◌, ◌<◌, length};
+ghost use Rattle.std.specs.Prelude.{◌≡◌, List, ℕ, ◌<◌, length};
 ghost use Rattle.algorithms.specs.Automaton.{Automaton};
-ghost use Rattle.class_tables.specs.Cache.{Cached, Kept};
+ghost use Rattle.class_tables.specs.Cache.{CachedIn, Kept};
 
 use class_tables::{Cache, Counts};
 
@@ -79,7 +79,8 @@ pub fn end(counts: &mut Counts, gain: u32)
 // Begins anew with a cache that has no room for a class.
 pub fn renew(cache: &mut Cache)
     ensures { (cache.new.store ≡ cache.old.store) × (cache.new.hints ≡ cache.old.hints)
-        × ((A : Automaton) → Cached A cache.old → Cached A cache.new) }
+        × ((A : Automaton) (store : List ℕ) → CachedIn A cache.old.counts store cache.old.maps cache.old.cells
+        → CachedIn A cache.new.counts store cache.new.maps cache.new.cells) }
 {
     if cache.counts[0] < 1024 {
         return;

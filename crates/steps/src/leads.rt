@@ -6,7 +6,7 @@ ghost use Rattle.steps.specs.Choices.{Makes};
 ghost use Rattle.steps.specs.Successors.{goes};
 ghost use Rattle.steps.specs.Leads.{arrives, leads_by, leads_in};
 
-use crate::Configuration;
+pub use crate::Configuration;
 use links::place_at;
 use model::{Move, Place, Side, Symbol};
 use transitions::TransitionTable;

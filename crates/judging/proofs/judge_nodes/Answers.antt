@@ -24,4 +24,4 @@ pub returns-in-Unknown : goal.returns-in-Unknown
 returns-in-Unknown c =
     λ A k h.
     let told = c.judge_nodes-weighed.ensures A k (kept-cache A _ _ _ _ _ c.begin.ensures h) in
-    (c.renew.ensures.2 A (kept-cache A _ _ _ _ _ c.end-in-Unknown.ensures told.0), c.without_cache-in-Unknown.ensures A k)
+    (rw c.renew.ensures.0 (c.renew.ensures.2 A _ (kept-cache A _ _ _ _ _ c.end-in-Unknown.ensures told.0)), c.without_cache-in-Unknown.ensures A k)

@@ -8,6 +8,6 @@ pub returns : goal.returns
 returns c = (
   refl,
   refl,
-  λ A k. renewed A _ _ _ _ _ _ 1024 k (cleared _ _ (c.fill.ensures.after (λ y e. e)))
+  λ A store k. renewed A _ store _ _ _ _ 1024 k (cleared _ _ (c.fill.ensures.after (λ y e. e)))
       (cleared _ _ (c.fill-2.ensures.after (λ y e. e))),
 )
